@@ -1,0 +1,5 @@
+pub mod Cuts
+pub mod Domains
+pub mod Names
+pub mod Native
+pub mod Scheme

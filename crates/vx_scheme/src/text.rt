@@ -1,0 +1,97 @@
+ghost use Rattle.std.specs.Prelude.{◌≡◌, [], ◌++◌, OnOk, OnErr, length, take, ◌≤◌, IsUtf8, string_bytes, IsTrue, ◌↔◌};
+ghost use Rattle.vx_spec.specs.Numerals.{numeral_text};
+
+use crate::memory::NoMemory;
+use std::alloc::{AllocError, Global};
+use std::fmt::Write;
+use std::marker::Model;
+
+/// A text in UTF-8, which contracts see as its bytes.
+#[derive(Debug, Drop)]
+pub struct Text {
+    inner: String,
+}
+
+impl Model for Text {
+    ghost use Rattle.std.specs.Prelude.{List, ℕ, string_bytes};
+
+    ghost Value = { List ℕ };
+
+    ghost view = { λ text. string_bytes text.inner };
+}
+
+impl Text {
+    /// The empty text. It takes no memory.
+    pub fn new(alloc: Global) -> Text
+        ensures { result ≡ [] }
+    {
+        Text {
+            inner: String::new(alloc),
+        }
+    }
+
+    /// Its length in bytes.
+    pub fn len(&self) -> usize
+        ensures { result ≡ length self.now }
+    {
+        self.inner.len()
+    }
+
+    /// Whether there is no byte.
+    pub fn is_empty(&self) -> bool
+        ensures { IsTrue result ↔ (self.now ≡ []) }
+    {
+        self.inner.is_empty()
+    }
+
+    /// The text, as a `str`.
+    pub fn as_str(&self) -> &str
+        ensures { result.now ≡ self.now }
+    {
+        self.inner.as_str()
+    }
+
+    /// Appends a piece. A refused push leaves the text as it was.
+    pub fn push_str(&mut self, piece: &str) -> Result<(), NoMemory>
+        ensures ok { OnOk result (self.new ≡ self.old ++ piece.now) }
+        ensures err { OnErr result (self.new ≡ self.old) }
+    {
+        match self.inner.push_str(piece) {
+            Ok(()) => Ok(()),
+            Err(_) => Err(NoMemory),
+        }
+    }
+
+    /// Appends the decimal numeral, without leading zeros. A refused push leaves the text as it was.
+    pub fn push_number(&mut self, number: u128) -> Result<(), NoMemory>
+        ensures ok { OnOk result (self.new ≡ self.old ++ numeral_text number) }
+        ensures err { OnErr result (self.new ≡ self.old) }
+    {
+        let mut digits = String::new(self.alloc());
+        match print_number(&mut digits, number) {
+            Ok(()) => self.push_str(digits.as_str()),
+            Err(_) => Err(NoMemory),
+        }
+    }
+
+    /// The allocator that the text was made with.
+    pub fn alloc(&self) -> Global {
+        *self.inner.allocator()
+    }
+
+    /// Keeps the first `len` bytes.
+    pub fn cut(&mut self, len: usize)
+        requires within { len ≤ length self.old }
+        requires text { IsUtf8 (take len self.old) }
+        ensures { self.new ≡ take len self.old }
+    {
+        let _whole = self.inner.as_str();
+        self.inner.truncate(len);
+    }
+}
+
+fn print_number(out: &mut String, number: u128) -> Result<(), AllocError>
+    ensures { OnOk result (string_bytes out.new ≡ string_bytes out.old ++ numeral_text number) }
+{
+    write!(out, "{number}")
+}

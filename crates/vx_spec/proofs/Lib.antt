@@ -1,0 +1,4 @@
+pub mod MarkLaws
+pub mod NumeralLaws
+pub mod PlaceLaws
+pub mod RowLaws
