@@ -1,6 +1,6 @@
 -- Where a version stands against a cut, which versions spans hold, and when spans are in order and apart.
 -- `order` is the order of a scheme.
-use Rattle.std.specs.Prelude.{◌≡◌, ◌≢◌, Bool, true, false, not, ◌&&◌, Option, Some, None, List, [], ◌∷◌, ◌++◌}
+use Rattle.std.specs.Prelude.{◌≡◌, Bool, true, false, not, ◌&&◌, Option, Some, None, List, [], ◌∷◌, ◌++◌}
 use Rattle.std.specs.List.{list_any, list_all}
 use Rattle.std.specs.Ordering.{ordering_then, bool_cmp}
 use Rattle.std.specs.declared.cmp.Ordering.{Ordering}

@@ -10,6 +10,8 @@ mod native;
 mod range_fault;
 mod scheme;
 mod span;
+#[cfg(test)]
+mod tests;
 mod text;
 mod version_fault;
 

@@ -1,9 +1,9 @@
 -- Numerals: their value, what `parse` gives for them, and the numeral of a number.
-use Rattle.std.proofs.Common.{◌≡◌, ◌<◌, ◌≤◌, ◌^◌, ℕ, List, length, Result, Ok, Err, Bool, true, rules, arith, inl, inr, ◌≢◌, ◌+◌, ◌-◌, ◌/◌, ◌%◌, ◌*◌, ◌++◌, ◌&&◌, zero, suc, [], ◌∷◌, get_or, map, eqb, ltb, cond, false, refl, sym, ap, ◌∙◌}
-use Rattle.std.specs.List.{list_all, AllByRecursion}
+use Rattle.std.proofs.Common.{◌≡◌, ◌<◌, ◌≤◌, ◌^◌, ℕ, List, length, Result, Ok, Err, true, rules, arith, inl, inr, ◌≢◌, ◌+◌, ◌/◌, ◌%◌, ◌++◌, [], ◌∷◌, get_or, map, refl, ap, ◌∙◌}
+use Rattle.std.specs.List.{list_all}
 use Rattle.std.specs.Char.{is_ascii_digit, digit_value}
-use Rattle.std.specs.Str.Parse.{ParsesUnsigned, AllDigits}
-use Rattle.std.proofs.lemmas.Bool.{cases_lt, and_parts, ltb-true, cases_eq, and_from, eq-eqb, ne_eqb, lt-ltb}
+use Rattle.std.specs.Str.Parse.{ParsesUnsigned}
+use Rattle.std.proofs.lemmas.Bool.{cases_lt, and_parts, ltb-true, cases_eq, and_from, ne_eqb, lt-ltb}
 use Rattle.std.proofs.lemmas.Result.{OkIff-at_ok, OkIff-at_err}
 use Rattle.std.proofs.lemmas.Str.Parse.{IsNumeralModel, numerals_by_weight, parse_digits}
 use Rattle.vx_spec.specs.Numerals.{is_numeral, value, numeral_text}

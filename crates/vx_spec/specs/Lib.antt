@@ -1,5 +1,7 @@
 pub mod Ascending
+pub mod Firsts
 pub mod Marks
 pub mod Numerals
 pub mod Places
 pub mod Rows
+pub mod Runs

@@ -1,0 +1,23 @@
+-- Maximal runs of bytes.
+use Rattle.std.specs.Prelude.{◌==◌, ◌||◌, not, ℕ, Bool, false, List, [], ◌∷◌, take, drop}
+use Rattle.std.specs.List.{prefix_len}
+
+-- a space or a tab
+abbrev pub is_blank : ℕ → Bool
+is_blank b = b == 32 || b == 9
+
+abbrev pub is_solid : ℕ → Bool
+is_solid b = not (is_blank b)
+
+-- the text has a first byte, which passes
+abbrev pub begins : (ℕ → Bool) → List ℕ → Bool
+begins test [] = false
+begins test (b ∷ text) = test b
+
+-- the maximal run of bytes that pass at the front of the text
+abbrev pub run : (ℕ → Bool) → List ℕ → List ℕ
+run test text = take (prefix_len test text) text
+
+-- what stands behind it
+abbrev pub past : (ℕ → Bool) → List ℕ → List ℕ
+past test text = drop (prefix_len test text) text

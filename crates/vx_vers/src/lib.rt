@@ -1,0 +1,6 @@
+//! Lists of version constraints over any scheme: what they mean, and their VERS text.
+#![tactic(auto)]
+
+mod constraints;
+
+pub use constraints::{Comparator, Constraint, Constraints};
