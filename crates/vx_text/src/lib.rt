@@ -1,8 +1,10 @@
-//! Texts: numerals, and cuts at a byte.
+//! Texts: numerals, cuts at a byte, and escapes.
 #![tactic(auto)]
 
+mod escapes;
 mod marks;
 mod numerals;
 
+pub use escapes::{EscapeFault, escape, escapes_are_undone, round_trip, unescape};
 pub use marks::{cut, parts};
 pub use numerals::{NumeralFault, is_numeral, numeral};

@@ -1,4 +1,3 @@
-use Rattle.std.proofs.Common.{Result, List, ℕ, Bor}
 use Rattle.std.proofs.lemmas.Iterator.Consumers.{map_from_collect}
 use Rattle.std.proofs.lemmas.Iterator.Splits.{YieldsList-from_str_split}
 use Rattle.vx_text.proofs.marks.parts.Goals as goal
