@@ -2,5 +2,7 @@
 #![tactic(auto)]
 
 mod constraints;
+mod writing;
 
 pub use constraints::{Comparator, Constraint, Constraints};
+pub use writing::write;
