@@ -1,0 +1,64 @@
+-- The text of a version after the grammar of Semantic Versioning 2.0: the text is its parts, joined by their signs;
+-- each part has its form; and the version has their values. '.' is 46, '-' is 45, '+' is 43 and '0' is 48.
+use Rattle.std.specs.Prelude.{◌≡◌, ℕ, ◌&&◌, ◌==◌, not, nat_lt, Bool, true, List, [], ◌∷◌, ◌++◌, length, map, slice_index, if◌then◌else◌}
+use Rattle.std.specs.List.{list_all, join_with_byte}
+use Rattle.vx_spec.specs.Numerals.{is_numeral, value}
+use Rattle.vx_scheme.specs.declared.ident.Ident.{Ident}
+use Rattle.vx_scheme.specs.declared.ident.Ident.TheVariants.{Number, Word}
+use Rattle.npm_scheme.specs.Version.{Fields, is_build_identifier}
+
+-- the parts of a version's text; no identifiers where the pre-release or the build is left out
+pub record Parts : Type 0 where
+  pub major : List ℕ
+  pub minor : List ℕ
+  pub patch : List ℕ
+  pub pre : List (List ℕ)
+  pub build : List (List ℕ)
+
+-- items 9 and 10: identifiers joined by '.', behind their mark, where there are any
+abbrev pub tail : ℕ → List (List ℕ) → List ℕ
+tail mark [] = []
+tail mark (first ∷ more) = mark ∷ join_with_byte 46 (first ∷ more)
+
+-- item 2: three numerals joined by '.'
+abbrev pub core : List ℕ → List ℕ → List ℕ → List ℕ
+core major minor patch = major ++ (46 ∷ (minor ++ (46 ∷ patch)))
+
+-- the whole text: the version core, '-' and the pre-release, '+' and the build
+abbrev pub whole : Parts → List ℕ
+whole p = core p.major p.minor p.patch ++ tail 45 p.pre ++ tail 43 p.build
+
+-- a zero, and something behind it
+abbrev pub has_leading_zero : List ℕ → Bool
+has_leading_zero text = (slice_index text 0 == 48) && nat_lt 1 (length text)
+
+-- items 2 and 9, the grammar's numeric identifier: digits without leading zeros
+abbrev pub is_plain_numeral : List ℕ → Bool
+is_plain_numeral text = is_numeral text && not (has_leading_zero text)
+
+-- item 9, the grammar's pre-release identifier: an identifier that has no leading zeros where it is digits alone
+abbrev pub is_pre_identifier : List ℕ → Bool
+is_pre_identifier text = is_build_identifier text && not (is_numeral text && has_leading_zero text)
+
+-- each part has the form that the grammar names for it
+pub record HasForm (p : Parts) : Type 0 where
+  pub major : is_plain_numeral p.major ≡ true
+  pub minor : is_plain_numeral p.minor ≡ true
+  pub patch : is_plain_numeral p.patch ≡ true
+  pub pre : list_all is_pre_identifier p.pre ≡ true
+  pub build : list_all is_build_identifier p.build ≡ true
+
+-- digits alone stand for their number, and any other identifier for itself
+abbrev pub identifier_of : List ℕ → Ident
+identifier_of text = if is_numeral text then Number (value text) else Word text
+
+-- the version that the parts stand for
+abbrev pub version_of : Parts → Fields
+version_of p = record { major = value p.major; minor = value p.minor; patch = value p.patch; pre = map identifier_of p.pre; build = join_with_byte 46 p.build }
+
+-- The text spells the version, with numerals of any length.
+pub record Spells (text : List ℕ) (v : Fields) : Type 0 where
+  pub parts : Parts
+  pub joined : text ≡ whole parts
+  pub form : HasForm parts
+  pub values : v ≡ version_of parts

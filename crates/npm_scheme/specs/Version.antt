@@ -1,0 +1,64 @@
+-- A version after Semantic Versioning 2.0: its fields, with numbers of any size and texts as their bytes; when they
+-- are a version's; and the limit of numerals.
+use Rattle.std.specs.Prelude.{◌≡◌, ◌==◌, ◌&&◌, ◌||◌, ◌^◌, ◌<◌, not, nat_lt, ℕ, Bool, true, List, [], ◌∷◌, length}
+use Rattle.std.specs.Char.{is_ascii_alphanumeric}
+use Rattle.std.specs.List.{AllByRecursion, list_all, slice_split}
+use Rattle.vx_spec.specs.Numerals.{is_numeral}
+use Rattle.vx_scheme.specs.declared.ident.Ident.{Ident}
+use Rattle.vx_scheme.specs.declared.ident.Ident.TheVariants.{Number, Word}
+
+-- the fields: item 2 has the three numbers, item 9 the pre-release identifiers, item 10 the build, as it is written
+pub record Fields : Type 0 where
+  pub major : ℕ
+  pub minor : ℕ
+  pub patch : ℕ
+  pub pre : List Ident
+  pub build : List ℕ
+
+-- items 9 and 10: identifiers hold only ASCII letters, digits and '-', which is 45
+abbrev pub is_identifier_byte : ℕ → Bool
+is_identifier_byte b = is_ascii_alphanumeric b || (b == 45)
+
+-- the grammar's build identifier: one such byte or more
+abbrev pub is_build_identifier : List ℕ → Bool
+is_build_identifier text = nat_lt 0 (length text) && list_all is_identifier_byte text
+
+-- a numeric identifier is any number; the grammar's alphanumeric identifier is an identifier that is not digits alone
+abbrev pub is_ident : Ident → Bool
+is_ident (Number n) = true
+is_ident (Word w) = is_build_identifier w && not (is_numeral w)
+
+-- the identifiers of a build: none where it is left out, else those between its dots ('.' is 46)
+abbrev pub build_pieces : List ℕ → List (List ℕ)
+build_pieces [] = []
+build_pieces (byte ∷ build) = slice_split (λ b. b == 46) (byte ∷ build)
+
+-- The fields are a version's: the pre-release and the build are made of identifiers.
+pub record IsVersion (v : Fields) : Type 0 where
+  pub pre : list_all is_ident v.pre ≡ true
+  pub build : list_all is_build_identifier (build_pieces v.build) ≡ true
+
+-- an identifier's number is within the limit of 128 bits
+abbrev pub IdentFits : Ident → Type 0
+IdentFits (Number n) = n < 2 ^ 128
+IdentFits (Word w) = Unit {0}
+
+-- each number of the version is within the limit of 128 bits
+abbrev pub Fits : Fields → Type 0
+Fits v = (v.major < 2 ^ 128) × (v.minor < 2 ^ 128) × (v.patch < 2 ^ 128) × AllByRecursion IdentFits v.pre
+
+-- item 9: a version without pre-release identifiers is a release
+abbrev pub IsRelease : Fields → Type 0
+IsRelease v = v.pre ≡ []
+
+-- the release `M.m.p`
+abbrev pub release_of : ℕ → ℕ → ℕ → Fields
+release_of major minor patch = record { major = major; minor = minor; patch = patch; pre = []; build = [] }
+
+-- the version `M.m.p-0`
+abbrev pub lowest_of : ℕ → ℕ → ℕ → Fields
+lowest_of major minor patch = record { major = major; minor = minor; patch = patch; pre = Number 0 ∷ []; build = [] }
+
+-- the version without its build
+abbrev pub without_build : Fields → Fields
+without_build v = record { major = v.major; minor = v.minor; patch = v.patch; pre = v.pre; build = [] }

@@ -1,0 +1,236 @@
+ghost use Rattle.std.specs.Prelude.{◌≡◌, ◌==◌, ◌↔◌, ◌<◌, ◌^◌, ℕ, List, MatchOption, IsTrue, IfOk, IfErr, map};
+ghost use Rattle.std.specs.Option.{option_copied};
+ghost use Rattle.std.specs.List.{AllByRecursion, join_with_byte, list_all, slice_split};
+ghost use Rattle.vx_spec.specs.Numerals.{is_numeral, value};
+ghost use Rattle.vx_scheme.specs.Scheme.{Refuses};
+ghost use Rattle.npm_scheme.specs.Version.{IdentFits, Fits, is_identifier_byte, is_build_identifier};
+ghost use Rattle.npm_scheme.specs.Spelling.{HasForm, identifier_of, version_of, Spells, has_leading_zero, is_plain_numeral, is_pre_identifier};
+ghost use Rattle.npm_scheme.specs.Values.{Gives};
+ghost use Rattle.npm_scheme.specs.Written.{pieces, parts, IsDotted, NotDotted, IsWritten, NotWritten};
+
+use crate::version::NpmVersion;
+use std::alloc::Global;
+use vx_scheme::{Ident, Idents, NoMemory, Text, VersionFault};
+use vx_text::{cut, is_numeral, numeral, parts};
+
+/// The parts of a version's text, as they are written.
+#[derive(Drop)]
+pub struct Written<'a> {
+    /// The first numeral.
+    pub major: &'a str,
+    /// The second numeral.
+    pub minor: &'a str,
+    /// The third numeral.
+    pub patch: &'a str,
+    /// What stands behind the `-`, where there is one.
+    pub pre: Option<&'a str>,
+    /// What stands behind the `+`, where there is one.
+    pub build: Option<&'a str>,
+}
+
+/// The version that the text spells. The forms of the parts are tested before a value is made, so that `NotAVersion`
+/// comes before `Numeral`.
+pub(crate) fn read(alloc: Global, text: &str) -> Result<NpmVersion, VersionFault>
+    ensures ok { IfOk result (λ v. Spells text.now v × Fits v) }
+    ensures err { IfErr result (Refuses Spells Fits text.now) }
+{
+    match take_apart(text) {
+        Some(written) => valued(alloc, &written),
+        None => Err(VersionFault::NotAVersion),
+    }
+}
+
+/// The parts of a version's text, each of which has its form; `None` exactly where the text has no such parts. It
+/// takes no memory.
+pub fn take_apart(text: &str) -> Option<Written<'_>>
+    ensures { MatchOption result (NotWritten text.now) (λ w. IsWritten text.now (parts w)) }
+{
+    let (rest, build) = cut(text, '+');
+    let (core, pre) = cut(rest, '-');
+    let Some((major, minor, patch)) = dotted(core) else {
+        return None;
+    };
+    let written = Written {
+        major,
+        minor,
+        patch,
+        pre,
+        build,
+    };
+    if has_form(&written) {
+        Some(written)
+    } else {
+        None
+    }
+}
+
+/// The parts before the first dot, between it and the second, and behind that.
+fn dotted(text: &str) -> Option<(&str, &str, &str)>
+    ensures { MatchOption result (NotDotted text.now) (λ p. IsDotted text.now p.0.now p.1.now p.2.now) }
+{
+    let (first, behind) = cut(text, '.');
+    let Some(rest) = behind else {
+        return None;
+    };
+    let (second, behind) = cut(rest, '.');
+    let Some(third) = behind else {
+        return None;
+    };
+    Some((first, second, third))
+}
+
+fn has_form(written: &Written) -> bool
+    ensures { IsTrue result ↔ HasForm (parts written.now) }
+{
+    is_plain_numeral(written.major)
+        && is_plain_numeral(written.minor)
+        && is_plain_numeral(written.patch)
+        && is_pre(written.pre)
+        && is_build(written.build)
+}
+
+/// Whether the text is a numeral without leading zeros. It takes no memory.
+pub fn is_plain_numeral(text: &str) -> bool
+    ensures { result ≡ is_plain_numeral text.now }
+{
+    is_numeral(text) && !has_leading_zero(text)
+}
+
+fn has_leading_zero(text: &str) -> bool
+    ensures { result ≡ has_leading_zero text.now }
+{
+    let bytes = text.as_bytes();
+    bytes.len() > 1 && bytes[0] == b'0'
+}
+
+fn is_pre(text: Option<&str>) -> bool
+    ensures { result ≡ list_all is_pre_identifier (pieces (option_copied text.entry)) }
+{
+    match text {
+        Some(text) => all_pre(text),
+        None => true,
+    }
+}
+
+fn all_pre(text: &str) -> bool
+    ensures { result ≡ list_all is_pre_identifier (slice_split (λ b. b == 46) text.now) }
+{
+    text.split('.').all(|part| is_pre_identifier(part))
+}
+
+fn is_pre_identifier(text: &str) -> bool
+    ensures { result ≡ is_pre_identifier text.now }
+{
+    is_build_identifier(text) && !(is_numeral(text) && has_leading_zero(text))
+}
+
+fn is_build(text: Option<&str>) -> bool
+    ensures { result ≡ list_all is_build_identifier (pieces (option_copied text.entry)) }
+{
+    match text {
+        Some(text) => all_build(text),
+        None => true,
+    }
+}
+
+fn all_build(text: &str) -> bool
+    ensures { result ≡ list_all is_build_identifier (slice_split (λ b. b == 46) text.now) }
+{
+    text.split('.').all(|part| is_build_identifier(part))
+}
+
+fn is_build_identifier(text: &str) -> bool
+    ensures { result ≡ is_build_identifier text.now }
+{
+    !text.is_empty() && has_identifier_bytes(text)
+}
+
+fn has_identifier_bytes(text: &str) -> bool
+    ensures { result ≡ list_all is_identifier_byte text.now }
+{
+    text.as_bytes()
+        .iter()
+        .all(|byte| byte.is_ascii_alphanumeric() || *byte == b'-')
+}
+
+/// The version that the parts stand for. `Numeral` comes exactly where one of their numerals passes 2^128-1, unless
+/// memory ends before.
+pub fn valued(alloc: Global, written: &Written) -> Result<NpmVersion, VersionFault>
+    requires { HasForm (parts written.now) }
+    ensures { Gives Fits result (version_of (parts written.now)) }
+{
+    let major = number(written.major)?;
+    let minor = number(written.minor)?;
+    let patch = number(written.patch)?;
+    let pre = identifiers(alloc, written.pre)?;
+    let build = build_text(alloc, written.build)?;
+    Ok(NpmVersion {
+        major,
+        minor,
+        patch,
+        pre,
+        build,
+    })
+}
+
+fn number(text: &str) -> Result<u128, VersionFault>
+    requires { IsTrue (is_numeral text.now) }
+    ensures { Gives (λ n. n < 2 ^ 128) result (value text.now) }
+{
+    match numeral(text) {
+        Ok(number) => Ok(number),
+        Err(_) => Err(VersionFault::Numeral),
+    }
+}
+
+fn identifiers(alloc: Global, text: Option<&str>) -> Result<Idents, VersionFault>
+    ensures { Gives (AllByRecursion IdentFits) result (map identifier_of (pieces (option_copied text.entry))) }
+{
+    match text {
+        Some(text) => {
+            let pieces = parts(alloc, text, '.')?;
+            identifiers_of(alloc, &pieces)
+        }
+        None => Ok(Idents::new(alloc)),
+    }
+}
+
+fn identifiers_of(alloc: Global, pieces: &[&str]) -> Result<Idents, VersionFault>
+    ensures { Gives (AllByRecursion IdentFits) result (map identifier_of (map (λ piece. piece.now) pieces.now)) }
+{
+    let mut all = Idents::new(alloc);
+    for piece in pieces {
+        let next = identifier(alloc, piece)?;
+        all.push(next)?;
+    }
+    Ok(all)
+}
+
+fn identifier(alloc: Global, text: &str) -> Result<Ident, VersionFault>
+    ensures { Gives IdentFits result (identifier_of text.now) }
+{
+    if is_numeral(text) {
+        let number = number(text)?;
+        Ok(Ident::Number(number))
+    } else {
+        let word = word(alloc, text)?;
+        Ok(Ident::Word(word))
+    }
+}
+
+fn build_text(alloc: Global, text: Option<&str>) -> Result<Text, NoMemory>
+    ensures { IfOk result (λ s. s ≡ join_with_byte 46 (pieces (option_copied text.entry))) }
+{
+    match text {
+        Some(text) => word(alloc, text),
+        None => Ok(Text::new(alloc)),
+    }
+}
+
+fn word(alloc: Global, text: &str) -> Result<Text, NoMemory>
+    ensures { IfOk result (λ word. word ≡ text.now) }
+{
+    let mut word = Text::new(alloc);
+    word.push_str(text)?;
+    Ok(word)
+}
