@@ -1,0 +1,9 @@
+//! npm's version ranges.
+#![tactic(auto)]
+
+mod range;
+mod reading;
+mod spans;
+
+pub use range::NpmRange;
+pub use reading::Pair;
