@@ -1,0 +1,7 @@
+pub mod Outside
+pub mod Store
+pub mod Fields
+pub mod Usage
+pub mod Answers
+pub mod Statuses
+pub mod Runs
