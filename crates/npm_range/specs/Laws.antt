@@ -14,7 +14,7 @@ use Rattle.npm_range.specs.Reading.{Reads, IsRange, In, holds, holds_low, holds_
 use Rattle.npm_range.specs.Spans.{bounds_of, Makes, Refuses}
 use Rattle.npm_range.specs.Unique.{one_pair}
 
-low_by : (after : Bool) (low v : Fields) (o : Ordering) → order_of v low ≡ o → order_of low v ≡ ordering_reverse o → stands_below (order_of low v) after ≡ holds_low after low v
+pub low_by : (after : Bool) (low v : Fields) (o : Ordering) → order_of v low ≡ o → order_of low v ≡ ordering_reverse o → stands_below (order_of low v) after ≡ holds_low after low v
 low_by false low v Less e f = rw (e, f) refl
 low_by false low v Equal e f = rw (e, f) refl
 low_by false low v Greater e f = rw (e, f) refl
@@ -22,7 +22,7 @@ low_by true low v Less e f = rw (e, f) refl
 low_by true low v Equal e f = rw (e, f) refl
 low_by true low v Greater e f = rw (e, f) refl
 
-high_by : (after : Bool) (high v : Fields) (o : Ordering) → order_of v high ≡ o → order_of high v ≡ ordering_reverse o → not (stands_below (order_of high v) after) ≡ holds_high after high v
+pub high_by : (after : Bool) (high v : Fields) (o : Ordering) → order_of v high ≡ o → order_of high v ≡ ordering_reverse o → not (stands_below (order_of high v) after) ≡ holds_high after high v
 high_by false high v Less e f = rw (e, f) refl
 high_by false high v Equal e f = rw (e, f) refl
 high_by false high v Greater e f = rw (e, f) refl

@@ -6,4 +6,4 @@ mod reading;
 mod spans;
 
 pub use range::NpmRange;
-pub use reading::Pair;
+pub use reading::{Pair, read_pair};

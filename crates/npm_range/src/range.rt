@@ -94,7 +94,7 @@ impl Native for NpmRange {
         if domain.is_releases() {
             return Err(RangeFault::NotBuilt);
         }
-        match reading::read(alloc, text.as_bytes()) {
+        match reading::read_pair(alloc, text.as_bytes()) {
             Ok(pair) => {
                 let bounds = spans::bounds_of(alloc, pair)?;
                 Ok(bounds)

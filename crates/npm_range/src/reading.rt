@@ -101,7 +101,7 @@ fn plain_version(alloc: Global, bytes: &[u8]) -> Result<NpmVersion, RangeFault>
 }
 
 /// The pair that the text reads as.
-pub(crate) fn read(alloc: Global, text: &[u8]) -> Result<Pair, RangeFault>
+pub fn read_pair(alloc: Global, text: &[u8]) -> Result<Pair, RangeFault>
     ensures ok { IfOk result (Reads text.now) }
     ensures err { IfErr result (Refused (NotRead text.now)) }
 {

@@ -10,6 +10,7 @@ mod reply;
 mod running;
 mod standard;
 mod status;
+mod translating;
 mod usage;
 mod writing;
 

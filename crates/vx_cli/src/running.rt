@@ -2,7 +2,7 @@ ghost use Rattle.std.specs.Prelude.{◌≡◌, ◌≢◌, ◌↔◌, ◌⊎◌, 
 ghost use Rattle.vx_cli.specs.Answers.{IsAnswer};
 ghost use Rattle.vx_cli.specs.Fields.{texts};
 ghost use Rattle.vx_cli.specs.Outside.{Rose};
-ghost use Rattle.vx_cli.specs.Runs.{AppendsAnswer, AppendsAnswerFront, ended_with};
+ghost use Rattle.vx_cli.specs.Runs.{AppendsAnswer, AppendsAnswerFront, AppendsTranslation, ended_with};
 ghost use Rattle.vx_cli.specs.Usage.{is_usage_fault};
 
 use crate::answering::answer;
@@ -36,6 +36,10 @@ pub fn run<R: Source, W: Sink>(
         → AppendsAnswer (texts words.now.items) ok (W.held sink.old) (W.held sink.new) }
     ensures counts { (ok : Bool) → result ≡ ended_with ok
         → (R.faults source.new ≡ R.faults source.old) × (W.faults sink.new ≡ W.faults sink.old) }
+
+    // A translated range and its printed text hold exactly the same versions.
+    ensures translated { result ≡ Status.Done
+        → AppendsTranslation (texts words.now.items) (W.held sink.old) (W.held sink.new) }
 
     // Whatever it ends with, the sink is as it was, or it got a front of an answer line.
     ensures front { (sink.new ≡ sink.old) ⊎ AppendsAnswerFront (texts words.now.items) (W.held sink.old) (W.held sink.new) }

@@ -2,7 +2,7 @@ use Rattle.std.proofs.Common.{refl, subst, ap, ◌∙◌, List, ℕ}
 use Rattle.vx_spec.specs.Runs.{is_blank, past}
 use Rattle.npm_range.specs.Words.{IsLowSign, IsHighSign, NoLowSign, NoHighSign}
 use Rattle.npm_range.proofs.Steps.{no_low, no_high, low_refused, high_refused, reads_pair}
-use Rattle.npm_range.proofs.reading.read.Goals as goal
+use Rattle.npm_range.proofs.reading.read_pair.Goals as goal
 
 pub returns-in_default-clause-err : goal.returns-in_default-clause-err
 returns-in_default-clause-err c = λ _. (refl, no_low c.args.text.now (subst NoLowSign c.first_word.ensures.word c.in_default.ensures))
