@@ -14,7 +14,7 @@ use vx_scheme::{Ident, Idents, NoMemory, Text, VersionFault};
 use vx_text::{cut, is_numeral, numeral, parts};
 
 /// The parts of a version's text, as they are written.
-#[derive(Drop)]
+#[derive(Debug, Clone, Copy)]
 pub struct Written<'a> {
     /// The first numeral.
     pub major: &'a str,
