@@ -29,17 +29,21 @@ no_high text none p reads = let w = words_of text p reads in none p.high_after w
 
 pub low_refused : (text : List ℕ) (after : Bool) (low : List ℕ) (fault : RangeFault) → IsLowSign (run is_solid text) after low → Refused (NotPlain low) fault → Refused (NotRead text) fault
 low_refused text after low fault sign refused = λ other.
-    let n = refused other in
-    (n.0, λ p reads.
-    let w = words_of text p reads in
-    n.1 p.low (subst (λ (t : List ℕ). SpellsPlain t p.low) (one_low (run is_solid text) p.low_after after w.low_text low w.first sign).1 w.low))
+    let n = refused other in (
+      n.0,
+      λ p reads.
+          let w = words_of text p reads in
+          n.1 p.low (subst (λ (t : List ℕ). SpellsPlain t p.low) (one_low (run is_solid text) p.low_after after w.low_text low w.first sign).1 w.low),
+    )
 
 pub high_refused : (text : List ℕ) (after : Bool) (high : List ℕ) (fault : RangeFault) → IsHighSign (past is_blank (past is_solid text)) after high → Refused (NotPlain high) fault → Refused (NotRead text) fault
 high_refused text after high fault sign refused = λ other.
-    let n = refused other in
-    (n.0, λ p reads.
-    let w = words_of text p reads in
-    n.1 p.high (subst (λ (t : List ℕ). SpellsPlain t p.high) (one_high (past is_blank (past is_solid text)) p.high_after after w.high_text high w.second sign).1 w.high))
+    let n = refused other in (
+      n.0,
+      λ p reads.
+          let w = words_of text p reads in
+          n.1 p.high (subst (λ (t : List ℕ). SpellsPlain t p.high) (one_high (past is_blank (past is_solid text)) p.high_after after w.high_text high w.second sign).1 w.high),
+    )
 
 sign_first : (after : Bool) (text : List ℕ) → high_sign after ++ text ≢ []
 sign_first false text e = cc e

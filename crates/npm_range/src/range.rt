@@ -1,9 +1,10 @@
-use crate::reading;
-use crate::spans;
+use crate::{reading, spans};
 use npm_scheme::{Npm, NpmVersion};
 use std::alloc::Global;
 use std::cmp::Ordering;
-use vx_scheme::{Bounds, Domain, Native, NoMemory, RangeFault, Scheme, SchemeName, Text, VersionFault};
+use vx_scheme::{
+    Bounds, Domain, Native, NoMemory, RangeFault, Scheme, SchemeName, Text, VersionFault,
+};
 
 /// npm's versions with npm's range language.
 pub struct NpmRange;
@@ -86,11 +87,7 @@ impl Native for NpmRange {
         Domain::All
     }
 
-    fn bounds(
-        alloc: Global,
-        text: &str,
-        domain: Domain,
-    ) -> Result<Bounds<NpmVersion>, RangeFault> {
+    fn bounds(alloc: Global, text: &str, domain: Domain) -> Result<Bounds<NpmVersion>, RangeFault> {
         if domain.is_releases() {
             return Err(RangeFault::NotBuilt);
         }

@@ -10,6 +10,8 @@ mod reply;
 mod running;
 mod standard;
 mod status;
+#[cfg(test)]
+mod tests;
 mod translating;
 mod usage;
 mod writing;

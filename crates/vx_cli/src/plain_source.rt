@@ -1,4 +1,4 @@
-ghost use Rattle.std.specs.Prelude.{◌≡◌, ◌<◌, ◌≤◌, ◌+◌, ◌++◌, List, ℕ, Option, Some, length, drop, take};
+ghost use Rattle.std.specs.Prelude.{◌≡◌, ◌≤◌, ◌++◌, List, ℕ, Option, Some, min, length, drop, take};
 
 use crate::outside::{Failed, Source};
 use std::marker::Model;
@@ -41,11 +41,9 @@ impl Source for PlainSource {
 
 // Copies as many bytes to the front of the buffer as fit.
 fn copy_front(bytes: &[u8], buf: &mut [u8]) -> usize
-    ensures bound { result ≤ length buf.new }
-    ensures within { result ≤ length bytes.now }
+    ensures count { result ≡ min (length bytes.now) (length buf.old) }
     ensures given { bytes.now ≡ take result buf.new ++ drop result bytes.now }
     ensures rest { drop result buf.new ≡ drop result buf.old }
-    ensures end { result ≡ 0 → 0 < length buf.old → length bytes.now ≤ 0 }
 {
     let count = bytes.len().min(buf.len());
     buf[..count].copy_from_slice(&bytes[..count]);

@@ -4,6 +4,7 @@ ghost use Rattle.std.specs.Prelude.{◌≡◌, List, ℕ, Option, None};
 use crate::outside::{Failed, Sink, Source};
 use std::io::{Read, Write};
 
+/// A reader as a source. An error of the reader is a fault.
 #[derive(Drop)]
 pub struct StdSource<R: Read> {
     inner: R,
@@ -11,7 +12,10 @@ pub struct StdSource<R: Read> {
 }
 
 impl<R: Read> StdSource<R> {
-    pub fn new(inner: R) -> Self {
+    /// The source that this reader is. It takes no memory.
+    pub fn new(inner: R) -> Self
+        ensures { result ≡ record { inner = inner; faults = 0 } }
+    {
         StdSource { inner, faults: 0 }
     }
 }
@@ -19,7 +23,7 @@ impl<R: Read> StdSource<R> {
 impl<R: Read> Source for StdSource<R> {
     ghost left = { λ _. None };
 
-    ghost faults = { λ s. s.faults };
+    ghost faults = { λ source. source.faults };
 
     // The reader may write anywhere in the buffer that it is given, so it is given one of its own.
     fn read(&mut self, buf: &mut [u8]) -> Result<usize, Failed> {
@@ -38,6 +42,8 @@ impl<R: Read> Source for StdSource<R> {
     }
 }
 
+/// A writer as a sink, which is flushed after each write. An error of the writer is a fault, and so is a write that
+/// takes nothing where there is something.
 #[derive(Drop)]
 pub struct StdSink<W: Write> {
     inner: W,
@@ -45,7 +51,10 @@ pub struct StdSink<W: Write> {
 }
 
 impl<W: Write> StdSink<W> {
-    pub fn new(inner: W) -> Self {
+    /// The sink that this writer is. It takes no memory.
+    pub fn new(inner: W) -> Self
+        ensures { result ≡ record { inner = inner; faults = 0 } }
+    {
         StdSink { inner, faults: 0 }
     }
 }
@@ -53,7 +62,7 @@ impl<W: Write> StdSink<W> {
 impl<W: Write> Sink for StdSink<W> {
     ghost held = { λ _. None };
 
-    ghost faults = { λ s. s.faults };
+    ghost faults = { λ sink. sink.faults };
 
     fn write(&mut self, bytes: &[u8]) -> Result<usize, Failed> {
         let result = self.inner.write(bytes);

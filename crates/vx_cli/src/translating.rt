@@ -59,10 +59,7 @@ fn two(alloc: Global, pair: Pair) -> Result<Constraints<NpmRange>, NoMemory>
 }
 
 /// The constraints of a pair, or none where there is no place between its cuts.
-pub fn constraints_of(
-    alloc: Global,
-    pair: Pair,
-) -> Result<Option<Constraints<NpmRange>>, NoMemory>
+pub fn constraints_of(alloc: Global, pair: Pair) -> Result<Option<Constraints<NpmRange>>, NoMemory>
     ensures { IfOk result (λ found. MatchOption found (is_open pair ≡ false) (λ list. (is_open pair ≡ true) × (list ≡ list_of pair))) }
 {
     match NpmRange::compare(&pair.low, &pair.high) {
