@@ -1,0 +1,10 @@
+pub mod PlaceLaws
+pub mod InOrder
+pub mod Merging
+pub mod Unique
+pub mod Turns
+pub mod LeastLaws
+pub mod Changing
+pub mod Judging
+pub mod Keeping
+pub mod Kept
