@@ -3,21 +3,23 @@ use Rattle.std.proofs.Common.{arith, length, take_all, take-add, subst, ◌+◌,
 use Rattle.std.specs.declared.cmp.Ordering.{Ordering}
 use Rattle.std.specs.declared.cmp.Ordering.TheVariants.{Less, Equal, Greater}
 use Rattle.std.specs.Cmp.{IsTotalOrder}
+use Rattle.std.specs.Ordering.{is_gt}
 use Rattle.std.specs.List.{AllByRecursion, list_any, list_all}
 use Rattle.vx_scheme.specs.declared.span.Cut.{Cut}
 use Rattle.vx_scheme.specs.declared.span.Span.{Span}
 use Rattle.vx_scheme.specs.Cuts.{cut_cmp, IsInOrder}
 use Rattle.vx_spec.specs.Ascending.{IsAscending}
-use Rattle.vx_line.specs.Line.{IsPlace, IsLevel, is_in}
+use Rattle.vx_line.specs.Line.{IsPlace, IsLevel, is_in, judged}
 use Rattle.vx_line.specs.Merges.{merge_by}
 use Rattle.vx_line.specs.Least.{first_least, least_of_both, unite}
 use Rattle.vx_line.proofs.Merging.{merge_means}
 use Rattle.vx_line.proofs.InOrder.{merge_in_order}
-use Rattle.vx_line.proofs.Unique.{unique, unique_start}
-use Rattle.vx_line.proofs.LeastLaws.{first_least-alike, own_least, unite_means, unite_in_order, first_least-append}
+use Rattle.vx_line.proofs.Judging.{Depends, each, judged_same, judged_means, judged_in_order, All-judged}
+use Rattle.vx_line.proofs.Unique.{above_cut, unique, unique_start}
+use Rattle.vx_line.proofs.LeastLaws.{first_least-level, All-first_least, each_found, first_least-alike, own_least, unite_means, unite_in_order, first_least-append}
 use Rattle.vx_line.proofs.Changing.{cuts_are_made, All-kept}
 use Rattle.vx_scheme.specs.Cuts.{cuts_of, cut_list, starts_of, spans_of, spans_at, terms_at, bounds_at, span_at, is_over, is_under}
-use Rattle.vx_interval.specs.Joined.{terms_cuts, made_cuts, mark_of, IsLeastOf, IsJoined, IsLine}
+use Rattle.vx_interval.specs.Joined.{terms_cuts, made_cuts, mark_of, IsLeastOf, IsJoined, IsLine, judged_spans}
 use Rattle.vx_interval.proofs.SpanLaws.{cut_total, spans_alike, cuts_of_spans_of, seen_in_order}
 
 parts : {X : Type 0} → (P : X → Type 0) (xs ys : List X) → AllByRecursion P (xs ++ ys) → AllByRecursion P xs × AllByRecursion P ys
@@ -25,10 +27,8 @@ parts P [] ys h = (tt, h)
 parts P (x ∷ xs) ys h = let rest = parts P xs ys h.1 in ((h.0, rest.0), rest.1)
 
 -- all of a queue's cuts are taken off it
-pub whole_queue : {X : Type 0} → (queue vec out start made : List X) (count : ℕ) → queue ≡ vec → vec ≡ out → out ≡ start ++ made → start ≡ [] → count ≡ length out → take count queue ≡ made
-whole_queue queue vec out start made count e f g h n =
-    let all : out ≡ made = g ∙ ap (λ l. l ++ made) h in
-    (λ i. take (n i) ((e ∙ f) i)) ∙ take_all (length out) out (omega arith) ∙ all
+pub whole_queue : {X : Type 0} → (queue vec made : List X) (count : ℕ) → queue ≡ vec → vec ≡ made → count ≡ length made → take count queue ≡ made
+whole_queue queue vec made count e f n = (λ i. take (n i) ((e ∙ f) i)) ∙ take_all (length made) made (omega arith)
 
 -- what bounds say of a piece depends on their cuts alone
 module _ {V : Type 0} (b b' : Cut V → Bool) where
@@ -137,3 +137,76 @@ module _ {V : Type 0} {order : V → V → Ordering} (o : IsTotalOrder order) wh
       in_order = seen_in_order order (starts_of set) kept joined (sym joined_is) kept_rises;
       carried = subst (AllByRecursion (λ c. IsLeastOf order (made_cuts bounds) c)) (sym cuts_are) kept_carried;
     }
+
+  -- ---- each piece between neighbouring cuts of the line, judged
+  module _ (bounds : List (List (List (Span V)))) (line : List (Cut V)) (t : IsLine order (made_cuts bounds) line) where
+    abbrev test : (Cut V → Bool) → Bool
+    test below = bounds_at below bounds
+
+    -- the cut of the line that is order-equal
+    abbrev own : Option (Cut V) → Cut V → Cut V
+    own None c = c
+    own (Some d) c = d
+
+    abbrev on_line : Cut V → Cut V
+    on_line c = own (first_least mark_of (cut_cmp order) c line) c
+
+    own_alike : (below : Cut V → Bool) → IsPlace (cut_cmp order) below → (c : Cut V) (r : Option (Cut V)) → first_least mark_of (cut_cmp order) c line ≡ r → below (own r c) ≡ below c
+    own_alike below place c None e = refl
+    own_alike below place c (Some d) e = place.alike d c (first_least-level mark_of (cut_total o) c d line e)
+
+    -- at a place, cuts may stand for those of the line
+    test_alike : (below : Cut V → Bool) → IsPlace (cut_cmp order) below → test (λ c. below (on_line c)) ≡ test below
+    test_alike below place = bounds_same (λ c. below (on_line c)) below bounds (each (cut_total o) (made_cuts bounds) (λ c. own_alike below place c (first_least mark_of (cut_cmp order) c line) refl))
+
+    own_same : (b b' : Cut V → Bool) → AllByRecursion (λ d. b d ≡ b' d) line → (c : Cut V) (r : Option (Cut V)) → first_least mark_of (cut_cmp order) c line ≡ r → (r ≡ None → ⊥) → b (own r c) ≡ b' (own r c)
+    own_same b b' h c None e f = absurd (f refl)
+    own_same b b' h c (Some d) e f = All-first_least mark_of (cut_total o) (λ d. b d ≡ b' d) c d line h e
+
+    all_same : (b b' : Cut V → Bool) → AllByRecursion (λ d. b d ≡ b' d) line → (cuts : List (Cut V)) → AllByRecursion (λ c. first_least mark_of (cut_cmp order) c (made_cuts bounds) ≡ None → ⊥) cuts → AllByRecursion (λ c. b (on_line c) ≡ b' (on_line c)) cuts
+    all_same b b' h [] f = tt
+    all_same b b' h (c ∷ cuts) f =
+        (own_same b b' h c (first_least mark_of (cut_cmp order) c line) refl (λ n. f.0 (sym (t.least c) ∙ n)), all_same b b' h cuts f.1)
+
+    -- and then the judge looks at the line alone
+    test_depends : Depends (cut_total o) (λ b. test (λ c. b (on_line c))) line
+    test_depends b b' h = bounds_same (λ c. b (on_line c)) (λ c. b' (on_line c)) bounds (all_same b b' h (made_cuts bounds) (each_found mark_of (cut_total o) (made_cuts bounds)))
+
+    abbrev lowest : Bool
+    lowest = bounds_at (λ c. false) bounds
+
+    abbrev cuts : List (Cut V)
+    cuts = judged (cut_cmp order) test lowest line
+
+    cuts_rise : IsAscending (cut_cmp order) cuts
+    cuts_rise = judged_in_order (cut_total o) test lowest line t.in_order
+
+    cuts_mean : (below : Cut V → Bool) → IsPlace (cut_cmp order) below → is_in below lowest cuts ≡ bounds_at below bounds
+    cuts_mean below place =
+        ap (is_in below lowest) (judged_same (cut_total o) test (λ b. test (λ c. b (on_line c))) lowest line (each (cut_total o) line (λ e. sym (test_alike (λ d. not (is_gt (cut_cmp order d e))) (above_cut (cut_total o) e)))))
+        ∙ judged_means (cut_total o) line t.in_order (λ b. test (λ c. b (on_line c))) test_depends lowest refl below place
+        ∙ test_alike below place
+
+    judged_is_joined : IsJoined order bounds (judged_spans order bounds line)
+    judged_is_joined = record {
+      pieces = λ below place. spans_alike order place lowest cuts cuts_rise ∙ cuts_mean below place;
+      in_order = seen_in_order order lowest cuts (judged_spans order bounds line) refl cuts_rise;
+      carried = subst (AllByRecursion (IsLeastOf order (made_cuts bounds))) (sym (cuts_of_spans_of lowest cuts))
+          (All-judged (cut_total o) (IsLeastOf order (made_cuts bounds)) test lowest line (carry (made_cuts bounds) line t line (own_least mark_of (cut_total o) line t.in_order)));
+    }
+
+    pub judged_joined : (spans : List (Span V)) → IsJoined order bounds spans → spans ≡ judged_spans order bounds line
+    judged_joined spans j = joined_unique bounds spans (judged_spans order bounds line) j judged_is_joined
+
+  no_cuts : (list : List (Cut V)) → IsLevel (cut_cmp order) list [] → list ≡ []
+  no_cuts [] l = refl
+  no_cuts (c ∷ rest) l = absurd l
+
+  -- where no place is in, there is no span
+  pub joined_none : (bounds : List (List (List (Span V)))) (spans : List (Span V)) → IsJoined order bounds spans → ((below : Cut V → Bool) → IsPlace (cut_cmp order) below → bounds_at below bounds ≡ false) → spans ≡ []
+  joined_none bounds spans j none =
+      let out : (below : Cut V → Bool) → IsPlace (cut_cmp order) below → is_in below (starts_of spans) (cuts_of spans) ≡ false = λ below place.
+          sym (spans_alike order place (starts_of spans) (cuts_of spans) j.in_order.rising) ∙ ap (spans_at below) j.in_order.apart ∙ j.pieces below place ∙ none below place in
+      let starts : starts_of spans ≡ false = unique_start (cut_total o) (starts_of spans) false (cuts_of spans) [] out in
+      let cuts : cuts_of spans ≡ [] = no_cuts (cuts_of spans) (unique (cut_total o) (starts_of spans) (cuts_of spans) [] j.in_order.rising tt (λ below place. out below place ∙ sym starts)) in
+      sym j.in_order.apart ∙ (λ i. spans_of (starts i) (cuts i))

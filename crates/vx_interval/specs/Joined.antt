@@ -1,12 +1,12 @@
 -- The joined spans of bounds.
-use Rattle.std.specs.Prelude.{◌≡◌, ℕ, Bool, Option, Some, None, List, [], ◌∷◌, ◌++◌}
+use Rattle.std.specs.Prelude.{◌≡◌, ℕ, Bool, false, Option, Some, None, List, [], ◌∷◌, ◌++◌}
 use Rattle.std.specs.List.{AllByRecursion}
 use Rattle.std.specs.declared.cmp.Ordering.{Ordering}
 use Rattle.vx_spec.specs.Ascending.{IsAscending}
 use Rattle.vx_scheme.specs.declared.span.Cut.{Cut}
 use Rattle.vx_scheme.specs.declared.span.Span.{Span}
-use Rattle.vx_scheme.specs.Cuts.{cut_cmp, cuts_of, spans_at, bounds_at, IsInOrder}
-use Rattle.vx_line.specs.Line.{IsPlace}
+use Rattle.vx_scheme.specs.Cuts.{cut_cmp, cuts_of, spans_of, spans_at, bounds_at, IsInOrder}
+use Rattle.vx_line.specs.Line.{IsPlace, judged}
 use Rattle.vx_line.specs.Least.{first_least}
 
 -- the cuts of an alternative, read from left to right, lower before upper
@@ -39,3 +39,9 @@ pub record IsJoined {V : Type 0} (order : V → V → Ordering) (bounds : List (
 pub record IsLine {V : Type 0} (order : V → V → Ordering) (made line : List (Cut V)) : Type 0 where
   pub in_order : IsAscending (cut_cmp order) line
   pub least : (cut : Cut V) → first_least mark_of (cut_cmp order) cut line ≡ first_least mark_of (cut_cmp order) cut made
+
+-- The spans that come of judging each piece between neighbouring cuts of a line: that below all cuts, and that
+-- directly above each.
+abbrev pub judged_spans : {V : Type 0} → (V → V → Ordering) → List (List (List (Span V))) → List (Cut V) → List (Span V)
+judged_spans order bounds line =
+    spans_of (bounds_at (λ cut. false) bounds) (judged (cut_cmp order) (λ below. bounds_at below bounds) (bounds_at (λ cut. false) bounds) line)

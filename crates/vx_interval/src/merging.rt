@@ -92,7 +92,7 @@ fn push_change<V: Drop>(
 }
 
 /// Which queue the next cut is taken of: the first by `Less`, both by `Equal`, the second by `Greater`.
-fn turn<C: Compares, L: Ledger>(
+pub(crate) fn turn<C: Compares, L: Ledger>(
     xs: &VecDeque<Cut<C::Item>>,
     ys: &VecDeque<Cut<C::Item>>,
     steps: &mut Steps<L>,

@@ -8,21 +8,22 @@ use Rattle.std.specs.List.{AllByRecursion}
 use Rattle.std.proofs.lemmas.Cmp.{tied_itself}
 use Rattle.vx_spec.specs.Ascending.{IsAscending}
 use Rattle.vx_line.specs.Line.{IsPlace, is_in, emit, judged}
+use Rattle.vx_line.proofs.InOrder.{All-emit, emit_in_order}
 use Rattle.vx_line.proofs.Merging.{emitted}
 
 module _ {C : Type 0} {R : C → C → Ordering} (o : IsTotalOrder R) where
   -- d lies at or below c
-  abbrev upto : C → C → Bool
+  abbrev pub upto : C → C → Bool
   upto c d = not (is_gt (R d c))
 
-  abbrev Depends : ((C → Bool) → Bool) → List C → Type 0
+  abbrev pub Depends : ((C → Bool) → Bool) → List C → Type 0
   Depends test line = (b b' : C → Bool) → AllByRecursion (λ d. b d ≡ b' d) line → test b ≡ test b'
 
   map_all : {P Q : C → Type 0} (line : List C) → ((d : C) → P d → Q d) → AllByRecursion P line → AllByRecursion Q line
   map_all [] f h = tt
   map_all (d ∷ line) f h = (f d h.0, map_all line f h.1)
 
-  each : {Q : C → Type 0} (line : List C) → ((d : C) → Q d) → AllByRecursion Q line
+  pub each : {Q : C → Type 0} (line : List C) → ((d : C) → Q d) → AllByRecursion Q line
   each [] f = tt
   each (d ∷ line) f = (f d, each line f)
 
@@ -41,7 +42,7 @@ module _ {C : Type 0} {R : C → C → Ordering} (o : IsTotalOrder R) where
   absorbed true false f = f refl
   absorbed false b f = refl
 
-  judged_same : (test test' : (C → Bool) → Bool) (x : Bool) (line : List C) → AllByRecursion (λ e. test (upto e) ≡ test' (upto e)) line → judged R test x line ≡ judged R test' x line
+  pub judged_same : (test test' : (C → Bool) → Bool) (x : Bool) (line : List C) → AllByRecursion (λ e. test (upto e) ≡ test' (upto e)) line → judged R test x line ≡ judged R test' x line
   judged_same test test' x [] h = refl
   judged_same test test' x (c ∷ line) h = λ i. emit x (h.0 i) c ((judged_same test test' (test (upto c)) line h.1 ∙ ap (λ y. judged R test' y line) h.0) i)
 
@@ -73,3 +74,14 @@ module _ {C : Type 0} {R : C → C → Ordering} (o : IsTotalOrder R) where
 
       lower : (c d e : C) → R c e ≡ Less → upto e d ≡ false → upto c d ≡ false
       lower c d e l n = not_above d c e (R d e) (R d c) refl refl l n
+
+  -- the judged cuts are cuts of the line
+  pub All-judged : (P : C → Type 0) (test : (C → Bool) → Bool) (x : Bool) (line : List C) → AllByRecursion P line → AllByRecursion P (judged R test x line)
+  All-judged P test x [] h = tt
+  All-judged P test x (c ∷ line) h = All-emit P x (test (upto c)) c (judged R test (test (upto c)) line) h.0 (All-judged P test (test (upto c)) line h.1)
+
+  pub judged_in_order : (test : (C → Bool) → Bool) (x : Bool) (line : List C) → IsAscending R line → IsAscending R (judged R test x line)
+  judged_in_order test x [] s = tt
+  judged_in_order test x (c ∷ line) s =
+      emit_in_order o (λ p q. q) x (test (upto c)) c (judged R test (test (upto c)) line)
+      (All-judged (λ d. R c d ≡ Less) test (test (upto c)) line s.0) (judged_in_order test (test (upto c)) line s.1)

@@ -1,5 +1,5 @@
 -- Tables of the items with the least marks.
-use Rattle.std.proofs.Common.{ℕ, ◌≡◌, Bool, true, false, cond, nat_lt, List, [], ◌∷◌, ◌++◌, Option, Some, None, refl, sym, ap, ◌∙◌, arith}
+use Rattle.std.proofs.Common.{ℕ, ◌≡◌, Bool, true, false, cond, nat_lt, List, [], ◌∷◌, ◌++◌, Option, Some, None, refl, sym, ap, subst, ◌∙◌, ◌⊎◌, inl, inr, arith}
 use Rattle.std.specs.declared.cmp.Ordering.{Ordering}
 use Rattle.std.specs.declared.cmp.Ordering.TheVariants.{Less, Equal, Greater}
 use Rattle.std.specs.Ordering.{match_ordering, is_eq, ordering_reverse}
@@ -162,3 +162,50 @@ module _ {C : Type 0} (mark : C → ℕ) {R : C → C → Ordering} (o : IsTotal
   pub first_least-alike : (c d : C) (items : List C) → R c d ≡ Equal → first_least mark R c items ≡ first_least mark R d items
   first_least-alike c d [] e = refl
   first_least-alike c d (x ∷ items) e = λ i. least_of_both mark (cond (is_eq (alike_right o c d x e i)) (Some x) None) (first_least-alike c d items e i)
+
+  -- ---- the least item is one of the items, and order-equal
+  some_of : (c x : C) (b : Bool) (later : Option C) (e : C) → is_eq (R x c) ≡ b → least_of_both mark (cond b (Some x) None) later ≡ Some e → (x ≡ e) ⊎ (later ≡ Some e)
+  some_of c x false later e f n = inr n
+  some_of c x true None e f n = inl (cc)
+  some_of c x true (Some y) e f n = lesser (nat_lt (mark y) (mark x)) n
+    where
+      lesser : (m : Bool) → Some (cond m y x) ≡ Some e → (x ≡ e) ⊎ (Some y ≡ Some e)
+      lesser true n = inr n
+      lesser false n = inl (cc)
+
+  some_level : (c x : C) (b : Bool) (later : Option C) (e : C) → is_eq (R x c) ≡ b → (later ≡ Some e → R e c ≡ Equal) → least_of_both mark (cond b (Some x) None) later ≡ Some e → R e c ≡ Equal
+  some_level c x false later e f h n = h n
+  some_level c x true later e f h n = elim (some_of c x true later e f n) [
+    | inl same ↦ rw (← same) (eq_of (R x c) f)
+    | inr rest ↦ h rest
+  ]
+
+  pub first_least-level : (c e : C) (items : List C) → first_least mark R c items ≡ Some e → R e c ≡ Equal
+  first_least-level c e [] n = absurd (cc)
+  first_least-level c e (x ∷ items) n = some_level c x (is_eq (R x c)) (first_least mark R c items) e refl (first_least-level c e items) n
+
+  pub All-first_least : (P : C → Type 0) (c e : C) (items : List C) → AllByRecursion P items → first_least mark R c items ≡ Some e → P e
+  All-first_least P c e [] h n = absurd (cc)
+  All-first_least P c e (x ∷ items) h n = elim (some_of c x (is_eq (R x c)) (first_least mark R c items) e refl n) [
+    | inl same ↦ subst P same h.0
+    | inr rest ↦ All-first_least P c e items h.1 rest
+  ]
+
+  found_self : (c : C) (b : Bool) (later : Option C) → b ≡ true → least_of_both mark (cond b (Some c) None) later ≡ None → ⊥
+  found_self c true None e n = cc
+  found_self c true (Some d) e n = cc
+  found_self c false later e n = cc
+
+  found_more : (x : C) (b : Bool) (later : Option C) → (later ≡ None → ⊥) → least_of_both mark (cond b (Some x) None) later ≡ None → ⊥
+  found_more x true None f n = cc
+  found_more x true (Some d) f n = cc
+  found_more x false later f n = f n
+
+  more_found : (x : C) (items rest : List C) → AllByRecursion (λ c. first_least mark R c items ≡ None → ⊥) rest → AllByRecursion (λ c. first_least mark R c (x ∷ items) ≡ None → ⊥) rest
+  more_found x items [] h = tt
+  more_found x items (c ∷ rest) h = (found_more x (is_eq (R x c)) (first_least mark R c items) h.0, more_found x items rest h.1)
+
+  -- each item has a least one
+  pub each_found : (items : List C) → AllByRecursion (λ c. first_least mark R c items ≡ None → ⊥) items
+  each_found [] = tt
+  each_found (x ∷ items) = (found_self x (is_eq (R x x)) (first_least mark R x items) (level_self x), more_found x items items (each_found items))

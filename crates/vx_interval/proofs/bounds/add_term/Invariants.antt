@@ -1,6 +1,6 @@
 use Rattle.std.proofs.Common.{◌≡◌, ◌++◌, drop}
 use Rattle.vx_scheme.specs.Cuts.{cuts_of}
-use Rattle.vx_interval.proofs.table.add_term.Given as goal
+use Rattle.vx_interval.proofs.bounds.add_term.Given as goal
 
 -- the cuts so far, and those of what is left
 abbrev pub invariant-loop-span : goal.invariant-loop-span
