@@ -1,10 +1,9 @@
 -- The joined spans of bounds are determined, and how a set comes to be them.
-use Rattle.std.proofs.Common.{arith, length, take_all, take-add, subst, ◌+◌, take, drop, ℕ, ◌≡◌, Bool, true, false, not, ◌&&◌, ◌||◌, List, [], ◌∷◌, ◌++◌, Option, Some, None, refl, sym, ap, ◌∙◌}
+use Rattle.std.proofs.Common.{arith, length, take_all, take-add, subst, ◌+◌, take, drop, ℕ, ◌≡◌, Bool, false, not, ◌&&◌, ◌||◌, List, [], ◌∷◌, ◌++◌, Option, Some, None, refl, sym, ap, ◌∙◌}
 use Rattle.std.specs.declared.cmp.Ordering.{Ordering}
-use Rattle.std.specs.declared.cmp.Ordering.TheVariants.{Less, Equal, Greater}
 use Rattle.std.specs.Cmp.{IsTotalOrder}
 use Rattle.std.specs.Ordering.{is_gt}
-use Rattle.std.specs.List.{AllByRecursion, list_any, list_all}
+use Rattle.std.specs.List.{AllByRecursion}
 use Rattle.vx_scheme.specs.declared.span.Cut.{Cut}
 use Rattle.vx_scheme.specs.declared.span.Span.{Span}
 use Rattle.vx_scheme.specs.Cuts.{cut_cmp, IsInOrder}
@@ -18,7 +17,7 @@ use Rattle.vx_line.proofs.Judging.{Depends, each, judged_same, judged_means, jud
 use Rattle.vx_line.proofs.Unique.{above_cut, unique, unique_start}
 use Rattle.vx_line.proofs.LeastLaws.{first_least-level, All-first_least, each_found, first_least-alike, own_least, unite_means, unite_in_order, first_least-append}
 use Rattle.vx_line.proofs.Changing.{cuts_are_made, All-kept}
-use Rattle.vx_scheme.specs.Cuts.{cuts_of, cut_list, starts_of, spans_of, spans_at, terms_at, bounds_at, span_at, is_over, is_under}
+use Rattle.vx_scheme.specs.Cuts.{cuts_of, cut_list, starts_of, spans_of, spans_at, terms_at, bounds_at, is_over, is_under}
 use Rattle.vx_interval.specs.Joined.{terms_cuts, made_cuts, mark_of, IsLeastOf, IsJoined, IsLine, judged_spans}
 use Rattle.vx_interval.proofs.SpanLaws.{cut_total, spans_alike, cuts_of_spans_of, seen_in_order}
 
@@ -206,7 +205,7 @@ module _ {V : Type 0} {order : V → V → Ordering} (o : IsTotalOrder order) wh
   pub joined_none : (bounds : List (List (List (Span V)))) (spans : List (Span V)) → IsJoined order bounds spans → ((below : Cut V → Bool) → IsPlace (cut_cmp order) below → bounds_at below bounds ≡ false) → spans ≡ []
   joined_none bounds spans j none =
       let out : (below : Cut V → Bool) → IsPlace (cut_cmp order) below → is_in below (starts_of spans) (cuts_of spans) ≡ false = λ below place.
-          sym (spans_alike order place (starts_of spans) (cuts_of spans) j.in_order.rising) ∙ ap (spans_at below) j.in_order.apart ∙ j.pieces below place ∙ none below place in
+      sym (spans_alike order place (starts_of spans) (cuts_of spans) j.in_order.rising) ∙ ap (spans_at below) j.in_order.apart ∙ j.pieces below place ∙ none below place in
       let starts : starts_of spans ≡ false = unique_start (cut_total o) (starts_of spans) false (cuts_of spans) [] out in
       let cuts : cuts_of spans ≡ [] = no_cuts (cuts_of spans) (unique (cut_total o) (starts_of spans) (cuts_of spans) [] j.in_order.rising tt (λ below place. out below place ∙ sym starts)) in
       sym j.in_order.apart ∙ (λ i. spans_of (starts i) (cuts i))

@@ -1,23 +1,20 @@
 -- What spans hold at a place, by their cuts.
 use Rattle.std.proofs.lemmas.List.{at_drop_more}
-use Rattle.std.proofs.Common.{ℕ, ◌<◌, length, get_or, drop, ◌≡◌, Bool, true, false, ◌&&◌, ◌||◌, not, cond, List, [], ◌∷◌, ◌++◌, Option, Some, None, refl, sym, ap, subst, ◌∙◌, All}
+use Rattle.std.proofs.Common.{ℕ, ◌<◌, length, get_or, drop, ◌≡◌, Bool, true, false, ◌&&◌, ◌||◌, not, cond, List, [], ◌∷◌, Option, Some, None, refl, sym, ap, subst, ◌∙◌, All}
 use Rattle.std.specs.declared.cmp.Ordering.{Ordering}
 use Rattle.std.specs.declared.cmp.Ordering.TheVariants.{Less, Equal, Greater}
 use Rattle.std.specs.Ordering.{ordering_then, ordering_reverse, bool_cmp, is_lt}
 use Rattle.std.specs.Cmp.{IsTotalOrder, bool_cmp_total}
-use Rattle.std.specs.List.{AllByRecursion, list_any, list_all}
+use Rattle.std.specs.List.{AllByRecursion}
 use Rattle.std.proofs.lemmas.Cmp.{on_total, then_total}
 use Rattle.vx_scheme.specs.declared.span.Cut.{Cut}
 use Rattle.vx_scheme.specs.declared.span.Span.{Span}
 use Rattle.vx_scheme.specs.Cuts.{cut_cmp, cut_below, stands_below}
 use Rattle.vx_spec.specs.Ascending.{IsAscending}
 use Rattle.vx_line.specs.Line.{IsPlace, IsFirstKept, IsMerged, is_in, join_by}
-use Rattle.vx_line.specs.Merges.{merge_by}
 use Rattle.vx_line.proofs.PlaceLaws.{is_in-not}
-use Rattle.vx_line.proofs.Merging.{merge_means}
-use Rattle.vx_line.proofs.InOrder.{merge_in_order}
-use Rattle.vx_scheme.specs.Cuts.{spans_of, cuts_of, cut_list, starts_of, spans_at, span_at, in_spans, IsInOrder}
-use Rattle.vx_interval.specs.Sets.{one_span, is_rising, joined_at, spans_from}
+use Rattle.vx_scheme.specs.Cuts.{spans_of, cuts_of, starts_of, spans_at, span_at, in_spans, IsInOrder}
+use Rattle.vx_interval.specs.Sets.{one_span, spans_from}
 
 -- spans give back the cuts that they were made of
 pub cuts_of_spans_of : {V : Type 0} → (starts : Bool) (cuts : List (Cut V)) → cuts_of (spans_of starts cuts) ≡ cuts

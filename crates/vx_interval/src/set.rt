@@ -147,7 +147,8 @@ impl<S: Scheme> Set<S> {
     /// The cuts, in order. It takes no memory.
     pub fn into_cuts(self) -> Cuts<S::Version>
         ensures cuts { result ≡ cuts_of self }
-        ensures in_order { IsInOrder S.order self }
+        ensures rising { IsAscending (cut_cmp S.order) result }
+        ensures apart { IsInOrder S.order self }
     {
         let Set { starts: _, cuts } = self;
         cuts

@@ -13,6 +13,7 @@ use Rattle.vx_line.specs.Least.{first_least, least_of_both}
 use Rattle.vx_line.proofs.InOrder.{All-emit}
 use Rattle.vx_line.proofs.LeastLaws.{none_level}
 use Rattle.vx_line.proofs.Unique.{above_cut, turned}
+use Rattle.vx_line.proofs.Above.{above_lower, above_alike}
 
 module _ {C : Type 0} (mark : C → ℕ) {R : C → C → Ordering} (o : IsTotalOrder R) where
   not_under : (c d e : C) (r s : Ordering) → R c e ≡ r → R d e ≡ s → R c d ≡ Less → is_lt r ≡ false → is_lt s ≡ false
@@ -81,23 +82,15 @@ module _ {C : Type 0} (mark : C → ℕ) {R : C → C → Ordering} (o : IsTotal
   passed x xs [] h g = tt
   passed x xs (y ∷ ys) h g = ((λ n. g.0 (rw (h.0, n) refl)), passed x xs ys h.1 g.1)
 
-  lower : (c d : C) (list : List C) → R c d ≡ Less → AllByRecursion (λ e. R d e ≡ Less) list → AllByRecursion (λ e. R c e ≡ Less) list
-  lower c d [] l h = tt
-  lower c d (e ∷ list) l h = (o.trans c d e l h.0, lower c d list l h.1)
-
-  alike : (c d : C) (list : List C) → R c d ≡ Equal → AllByRecursion (λ e. R d e ≡ Less) list → AllByRecursion (λ e. R c e ≡ Less) list
-  alike c d [] l h = tt
-  alike c d (e ∷ list) l h = (o.congr c d e l ∙ h.0, alike c d list l h.1)
-
   module _ (P : C → Type 0) where
     kept_by : (p q : Bool) (x y : C) (xs ys : List C) → P x → IsAscending R (x ∷ xs) → IsAscending R (y ∷ ys) → AllByRecursion (λ y. first_least mark R y (x ∷ xs) ≡ None → ⊥) (y ∷ ys)
         → ((q : Bool) (ys : List C) → IsAscending R ys → AllByRecursion (λ y. first_least mark R y xs ≡ None → ⊥) ys → AllByRecursion P (merge_by R (λ p q. q) (not p) xs q ys))
         → (r : Ordering) → R x y ≡ r → AllByRecursion P (merge_by R (λ p q. q) p (x ∷ xs) q (y ∷ ys))
-    kept_by p q x y xs ys h s t covered n Less e = rw e (All-emit P q q x (merge_by R (λ p q. q) (not p) xs q (y ∷ ys)) h (n q (y ∷ ys) t (passed x xs (y ∷ ys) (e, lower x y ys e t.0) covered)))
-    kept_by p q x y xs ys h s t covered n Equal e = rw e (All-emit P q (not q) x (merge_by R (λ p q. q) (not p) xs (not q) ys) h (n (not q) ys t.1 (passed x xs ys (alike x y ys e t.0) covered.1)))
+    kept_by p q x y xs ys h s t covered n Less e = rw e (All-emit P q q x (merge_by R (λ p q. q) (not p) xs q (y ∷ ys)) h (n q (y ∷ ys) t (passed x xs (y ∷ ys) (e, above_lower o x y ys e t.0) covered)))
+    kept_by p q x y xs ys h s t covered n Equal e = rw e (All-emit P q (not q) x (merge_by R (λ p q. q) (not p) xs (not q) ys) h (n (not q) ys t.1 (passed x xs ys (above_alike o x y ys e t.0) covered.1)))
     kept_by p q x y xs ys h s t covered n Greater e =
         let l : R y x ≡ Less = o.antisymm y x ∙ ap ordering_reverse e in
-        absurd (covered.0 (none_level mark o y y (x ∷ xs) (ap is_eq (tied_itself o y)) (l, lower y x xs l s.0)))
+        absurd (covered.0 (none_level mark o y y (x ∷ xs) (ap is_eq (tied_itself o y)) (l, above_lower o y x xs l s.0)))
 
     pub All-kept : (p : Bool) (xs : List C) (q : Bool) (ys : List C) → AllByRecursion P xs → IsAscending R xs → IsAscending R ys → AllByRecursion (λ y. first_least mark R y xs ≡ None → ⊥) ys → AllByRecursion P (merge_by R (λ p q. q) p xs q ys)
     All-kept p [] q [] h s t covered = tt

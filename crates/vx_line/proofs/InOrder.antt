@@ -8,6 +8,7 @@ use Rattle.std.specs.List.{AllByRecursion}
 use Rattle.vx_spec.specs.Ascending.{IsAscending}
 use Rattle.vx_line.specs.Line.{emit}
 use Rattle.vx_line.specs.Merges.{merge_right, merge_behind, merge_by}
+use Rattle.vx_line.proofs.Above.{above_lower, above_alike}
 
 module _ {C : Type 0} where
   pub All-emit : (P : C → Type 0) (x y : Bool) (c : C) (list : List C) → P c → AllByRecursion P list → AllByRecursion P (emit x y c list)
@@ -45,14 +46,6 @@ module _ {C : Type 0} {R : C → C → Ordering} (o : IsTotalOrder R) (op : Bool
   emit_in_order true false c list h s = (h, s)
   emit_in_order false true c list h s = (h, s)
 
-  lower : (c d : C) (list : List C) → R c d ≡ Less → AllByRecursion (λ e. R d e ≡ Less) list → AllByRecursion (λ e. R c e ≡ Less) list
-  lower c d [] l h = tt
-  lower c d (e ∷ list) l h = (o.trans c d e l h.0, lower c d list l h.1)
-
-  alike : (c d : C) (list : List C) → R c d ≡ Equal → AllByRecursion (λ e. R d e ≡ Less) list → AllByRecursion (λ e. R c e ≡ Less) list
-  alike c d [] l h = tt
-  alike c d (e ∷ list) l h = (o.congr c d e l ∙ h.0, alike c d list l h.1)
-
   right_in_order : (p q : Bool) (ys : List C) → IsAscending R ys → IsAscending R (merge_right op p q ys)
   right_in_order p q [] s = tt
   right_in_order p q (y ∷ ys) s = emit_in_order (op p q) (op p (not q)) y (merge_right op p (not q) ys) (All-right (λ d. R y d ≡ Less) op p (not q) ys s.0) (right_in_order p (not q) ys s.1)
@@ -62,12 +55,12 @@ module _ {C : Type 0} {R : C → C → Ordering} (o : IsTotalOrder R) (op : Bool
       (ordered : (q : Bool) (ys : List C) → IsAscending R ys → IsAscending R (next q ys)) where
     by_order : (q : Bool) (y : C) (ys : List C) → IsAscending R (y ∷ ys) → (r : Ordering) → R x y ≡ r → IsAscending R (merge_behind R op p x next (not q) ys)
         → IsAscending R (match_ordering r (emit (op p q) (op (not p) q) x (next q (y ∷ ys))) (emit (op p q) (op (not p) (not q)) x (next (not q) ys)) (emit (op p q) (op p (not q)) y (merge_behind R op p x next (not q) ys)))
-    by_order q y ys t Less e i = emit_in_order (op p q) (op (not p) q) x (next q (y ∷ ys)) (all x q (y ∷ ys) s.0 (e, lower x y ys e t.0)) (ordered q (y ∷ ys) t)
-    by_order q y ys t Equal e i = emit_in_order (op p q) (op (not p) (not q)) x (next (not q) ys) (all x (not q) ys s.0 (alike x y ys e t.0)) (ordered (not q) ys t.1)
+    by_order q y ys t Less e i = emit_in_order (op p q) (op (not p) q) x (next q (y ∷ ys)) (all x q (y ∷ ys) s.0 (e, above_lower o x y ys e t.0)) (ordered q (y ∷ ys) t)
+    by_order q y ys t Equal e i = emit_in_order (op p q) (op (not p) (not q)) x (next (not q) ys) (all x (not q) ys s.0 (above_alike o x y ys e t.0)) (ordered (not q) ys t.1)
     by_order q y ys t Greater e i =
         let l : R y x ≡ Less = o.antisymm y x ∙ ap ordering_reverse e in
         emit_in_order (op p q) (op p (not q)) y (merge_behind R op p x next (not q) ys)
-        (All-behind R op (λ d. R y d ≡ Less) p x next l (λ q' ys' g. all y q' ys' (lower y x xs l s.0) g) (not q) ys t.0) i
+        (All-behind R op (λ d. R y d ≡ Less) p x next l (λ q' ys' g. all y q' ys' (above_lower o y x xs l s.0) g) (not q) ys t.0) i
 
     behind_in_order : (q : Bool) (ys : List C) → IsAscending R ys → IsAscending R (merge_behind R op p x next q ys)
     behind_in_order q [] t = emit_in_order (op p q) (op (not p) q) x (next q []) (all x q [] s.0 tt) (ordered q [] tt)

@@ -11,6 +11,7 @@ use Rattle.vx_line.specs.Merges.{merge_by}
 use Rattle.vx_line.specs.Least.{first_least}
 use Rattle.vx_line.proofs.InOrder.{All-emit, All-right}
 use Rattle.vx_line.proofs.LeastLaws.{none_level}
+use Rattle.vx_line.proofs.Above.{above_lower, above_alike}
 
 module _ {C : Type 0} (mark : C → ℕ) {R : C → C → Ordering} (o : IsTotalOrder R) (P : C → Type 0) (op : Bool → Bool → Bool) where
   -- a cut of the second list that is order-equal to none of the first
@@ -25,21 +26,13 @@ module _ {C : Type 0} (mark : C → ℕ) {R : C → C → Ordering} (o : IsTotal
   passed x xs [] h g = tt
   passed x xs (y ∷ ys) h g = ((λ n. g.0 (rw (h.0, n) refl)), passed x xs ys h.1 g.1)
 
-  lower : (c d : C) (list : List C) → R c d ≡ Less → AllByRecursion (λ e. R d e ≡ Less) list → AllByRecursion (λ e. R c e ≡ Less) list
-  lower c d [] l h = tt
-  lower c d (e ∷ list) l h = (o.trans c d e l h.0, lower c d list l h.1)
-
-  alike : (c d : C) (list : List C) → R c d ≡ Equal → AllByRecursion (λ e. R d e ≡ Less) list → AllByRecursion (λ e. R c e ≡ Less) list
-  alike c d [] l h = tt
-  alike c d (e ∷ list) l h = (o.congr c d e l ∙ h.0, alike c d list l h.1)
-
   module _ (p : Bool) (x : C) (xs : List C) (h : P x) (s : IsAscending R (x ∷ xs)) (n : (q : Bool) (ys : List C) → IsAscending R ys → AllNew xs ys → AllByRecursion P (merge_by R op (not p) xs q ys)) where
     by_order : (q : Bool) (y : C) (ys : List C) → IsAscending R (y ∷ ys) → AllNew (x ∷ xs) (y ∷ ys) → AllByRecursion P (merge_by R op p (x ∷ xs) (not q) ys) → (r : Ordering) → R x y ≡ r → AllByRecursion P (merge_by R op p (x ∷ xs) q (y ∷ ys))
-    by_order q y ys t g i Less e = rw e (All-emit P (op p q) (op (not p) q) x (merge_by R op (not p) xs q (y ∷ ys)) h (n q (y ∷ ys) t (passed x xs (y ∷ ys) (e, lower x y ys e t.0) g)))
-    by_order q y ys t g i Equal e = rw e (All-emit P (op p q) (op (not p) (not q)) x (merge_by R op (not p) xs (not q) ys) h (n (not q) ys t.1 (passed x xs ys (alike x y ys e t.0) g.1)))
+    by_order q y ys t g i Less e = rw e (All-emit P (op p q) (op (not p) q) x (merge_by R op (not p) xs q (y ∷ ys)) h (n q (y ∷ ys) t (passed x xs (y ∷ ys) (e, above_lower o x y ys e t.0) g)))
+    by_order q y ys t g i Equal e = rw e (All-emit P (op p q) (op (not p) (not q)) x (merge_by R op (not p) xs (not q) ys) h (n (not q) ys t.1 (passed x xs ys (above_alike o x y ys e t.0) g.1)))
     by_order q y ys t g i Greater e =
         let l : R y x ≡ Less = o.antisymm y x ∙ ap ordering_reverse e in
-        rw e (All-emit P (op p q) (op p (not q)) y (merge_by R op p (x ∷ xs) (not q) ys) (g.0 (none_level mark o y y (x ∷ xs) (ap is_eq (tied_itself o y)) (l, lower y x xs l s.0))) i)
+        rw e (All-emit P (op p q) (op p (not q)) y (merge_by R op p (x ∷ xs) (not q) ys) (g.0 (none_level mark o y y (x ∷ xs) (ap is_eq (tied_itself o y)) (l, above_lower o y x xs l s.0))) i)
 
     behind : (q : Bool) (ys : List C) → IsAscending R ys → AllNew (x ∷ xs) ys → AllByRecursion P (merge_by R op p (x ∷ xs) q ys)
     behind q [] t g = All-emit P (op p q) (op (not p) q) x (merge_by R op (not p) xs q []) h (n q [] tt tt)

@@ -8,6 +8,7 @@ use Rattle.std.specs.List.{AllByRecursion}
 use Rattle.std.proofs.lemmas.Cmp.{tied_itself, tied_back, alike_right}
 use Rattle.vx_spec.specs.Ascending.{IsAscending}
 use Rattle.vx_line.specs.Least.{least_of, least_of_both, if_level, first_least, unite_behind, unite}
+use Rattle.vx_line.proofs.Above.{above_lower, above_alike}
 
 module _ {C : Type 0} (mark : C → ℕ) where
   least_of-assoc : (c d e : C) (m n o : Bool) → nat_lt (mark d) (mark c) ≡ m → nat_lt (mark e) (mark d) ≡ n → nat_lt (mark e) (mark c) ≡ o → cond (nat_lt (mark e) (mark (cond m d c))) e (cond m d c) ≡ cond (nat_lt (mark (cond n e d)) (mark c)) (cond n e d) c
@@ -64,10 +65,6 @@ module _ {C : Type 0} (mark : C → ℕ) {R : C → C → Ordering} (o : IsTotal
   pass true y left right f = rw (f refl) refl
   pass false y left right f = refl
 
-  lower : (c d : C) (list : List C) → R c d ≡ Less → AllByRecursion (λ e. R d e ≡ Less) list → AllByRecursion (λ e. R c e ≡ Less) list
-  lower c d [] l h = tt
-  lower c d (e ∷ list) l h = (o.trans c d e l h.0, lower c d list l h.1)
-
   module _ (c x : C) (xs : List C) (s : IsAscending R (x ∷ xs)) (next : List C → List C)
       (means : (ys : List C) → IsAscending R ys → first_least mark R c (next ys) ≡ least_of_both mark (first_least mark R c xs) (first_least mark R c ys)) where
     by_order : (y : C) (ys : List C) → IsAscending R (y ∷ ys) → (r : Ordering) → R x y ≡ r
@@ -85,7 +82,7 @@ module _ {C : Type 0} (mark : C → ℕ) {R : C → C → Ordering} (o : IsTotal
     by_order y ys t Greater e i =
         let l : R y x ≡ Less = o.antisymm y x ∙ ap ordering_reverse e in
         ap (least_of_both mark (if_level mark R c y)) i
-        ∙ pass (is_eq (R y c)) y (first_least mark R c (x ∷ xs)) (first_least mark R c ys) (λ b. none_level y c (x ∷ xs) b (l, lower y x xs l s.0))
+        ∙ pass (is_eq (R y c)) y (first_least mark R c (x ∷ xs)) (first_least mark R c ys) (λ b. none_level y c (x ∷ xs) b (l, above_lower o y x xs l s.0))
 
     behind_means : (ys : List C) → IsAscending R ys → first_least mark R c (unite_behind mark R x next ys) ≡ least_of_both mark (first_least mark R c (x ∷ xs)) (first_least mark R c ys)
     behind_means [] t = ap (least_of_both mark (if_level mark R c x)) (means [] tt) ∙ sym (least_of_both-assoc mark (if_level mark R c x) (first_least mark R c xs) None)
@@ -114,10 +111,6 @@ module _ {C : Type 0} (mark : C → ℕ) {R : C → C → Ordering} (o : IsTotal
   All-unite P [] ys h g = g
   All-unite P (x ∷ xs) ys h g = All-behind P x (unite mark R xs) h.0 (λ ys' g'. All-unite P xs ys' h.1 g') ys g
 
-  alike : (c d : C) (list : List C) → R c d ≡ Equal → AllByRecursion (λ e. R d e ≡ Less) list → AllByRecursion (λ e. R c e ≡ Less) list
-  alike c d [] l h = tt
-  alike c d (e ∷ list) l h = (o.congr c d e l ∙ h.0, alike c d list l h.1)
-
   -- what lies above two order-equal items lies above the lesser
   least_below : (x y : C) (m : Bool) (list : List C) → AllByRecursion (λ d. R x d ≡ Less) list → AllByRecursion (λ d. R y d ≡ Less) list → AllByRecursion (λ d. R (cond m y x) d ≡ Less) list
   least_below x y true list h g = g
@@ -126,14 +119,14 @@ module _ {C : Type 0} (mark : C → ℕ) {R : C → C → Ordering} (o : IsTotal
   module _ (x : C) (xs : List C) (s : IsAscending R (x ∷ xs)) where
     rises_by : (y : C) (ys : List C) → IsAscending R (y ∷ ys) → ((zs : List C) → IsAscending R zs → IsAscending R (unite mark R xs zs)) → (r : Ordering) → R x y ≡ r → IsAscending R (unite_behind mark R x (unite mark R xs) ys)
         → IsAscending R (match_ordering r (x ∷ unite mark R xs (y ∷ ys)) (least_of mark x y ∷ unite mark R xs ys) (y ∷ unite_behind mark R x (unite mark R xs) ys))
-    rises_by y ys t n Less e i = (All-unite (λ d. R x d ≡ Less) xs (y ∷ ys) s.0 (e, lower x y ys e t.0), n (y ∷ ys) t)
+    rises_by y ys t n Less e i = (All-unite (λ d. R x d ≡ Less) xs (y ∷ ys) s.0 (e, above_lower o x y ys e t.0), n (y ∷ ys) t)
     rises_by y ys t n Equal e i =
-        let over_x = All-unite (λ d. R x d ≡ Less) xs ys s.0 (alike x y ys e t.0) in
-        let over_y = All-unite (λ d. R y d ≡ Less) xs ys (alike y x xs (tied_back o x y e) s.0) t.0 in
+        let over_x = All-unite (λ d. R x d ≡ Less) xs ys s.0 (above_alike o x y ys e t.0) in
+        let over_y = All-unite (λ d. R y d ≡ Less) xs ys (above_alike o y x xs (tied_back o x y e) s.0) t.0 in
         (least_below x y (nat_lt (mark y) (mark x)) (unite mark R xs ys) over_x over_y, n ys t.1)
     rises_by y ys t n Greater e i =
         let l : R y x ≡ Less = o.antisymm y x ∙ ap ordering_reverse e in
-        (All-behind (λ d. R y d ≡ Less) x (unite mark R xs) l (λ zs g. All-unite (λ d. R y d ≡ Less) xs zs (lower y x xs l s.0) g) ys t.0, i)
+        (All-behind (λ d. R y d ≡ Less) x (unite mark R xs) l (λ zs g. All-unite (λ d. R y d ≡ Less) xs zs (above_lower o y x xs l s.0) g) ys t.0, i)
 
     rises_behind : ((zs : List C) → IsAscending R zs → IsAscending R (unite mark R xs zs)) → (ys : List C) → IsAscending R ys → IsAscending R (unite_behind mark R x (unite mark R xs) ys)
     rises_behind n [] t = (All-unite (λ d. R x d ≡ Less) xs [] s.0 tt, n [] tt)

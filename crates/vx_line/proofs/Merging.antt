@@ -4,11 +4,11 @@ use Rattle.std.specs.declared.cmp.Ordering.{Ordering}
 use Rattle.std.specs.declared.cmp.Ordering.TheVariants.{Less, Equal, Greater}
 use Rattle.std.specs.Ordering.{ordering_reverse, match_ordering}
 use Rattle.std.specs.Cmp.{IsTotalOrder}
-use Rattle.std.specs.List.{AllByRecursion}
 use Rattle.vx_spec.specs.Ascending.{IsAscending}
 use Rattle.vx_line.specs.Line.{IsPlace, is_in, emit}
 use Rattle.vx_line.specs.Merges.{merge_right, merge_behind, merge_by}
 use Rattle.vx_line.proofs.PlaceLaws.{none_below}
+use Rattle.vx_line.proofs.Above.{above_lower}
 
 same : (b t x : Bool) → (b ≡ false → t ≡ x) → t ≡ cond b t x
 same true t x f = refl
@@ -36,10 +36,6 @@ module _ {C : Type 0} {R : C → C → Ordering} (o : IsTotalOrder R) {below : C
   emitted true false c list f = refl
   emitted false true c list f = refl
 
-  further : (c d : C) (list : List C) → R c d ≡ Less → AllByRecursion (λ e. R d e ≡ Less) list → AllByRecursion (λ e. R c e ≡ Less) list
-  further c d [] l h = tt
-  further c d (e ∷ list) l h = (o.trans c d e l h.0, further c d list l h.1)
-
   module _ (op : Bool → Bool → Bool) where
     right_means : (p q : Bool) (ys : List C) → IsAscending R ys → is_in below (op p q) (merge_right op p q ys) ≡ op p (is_in below q ys)
     right_means p q [] s = refl
@@ -57,7 +53,7 @@ module _ {C : Type 0} {R : C → C → Ordering} (o : IsTotalOrder R) {below : C
           → is_in below (op p q) (match_ordering r (emit (op p q) (op (not p) q) x (next q (y ∷ ys))) (emit (op p q) (op (not p) (not q)) x (next (not q) ys)) (emit (op p q) (op p (not q)) y (merge_behind R op p x next (not q) ys)))
           ≡ op (is_in below p (x ∷ xs)) (is_in below q (y ∷ ys))
       by_order q y ys t Less e i =
-          let f : below x ≡ false → is_in below q (y ∷ ys) ≡ q = none_below place x q (y ∷ ys) (e, further x y ys e t.0) in
+          let f : below x ≡ false → is_in below q (y ∷ ys) ≡ q = none_below place x q (y ∷ ys) (e, above_lower o x y ys e t.0) in
           emitted (op p q) (op (not p) q) x (next q (y ∷ ys)) (λ n. means q (y ∷ ys) t ∙ (λ j. op (none_below place x (not p) xs s.0 n j) (f n j)))
           ∙ ap (λ w. cond (below x) w (op p q)) (means q (y ∷ ys) t)
           ∙ first_turns op p q (is_in below (not p) xs) (is_in below q (y ∷ ys)) (below x) f
@@ -68,7 +64,7 @@ module _ {C : Type 0} {R : C → C → Ordering} (o : IsTotalOrder R) {below : C
           ∙ both_turn op p q (is_in below (not p) xs) (is_in below (not q) ys) (below x) (below y) b
       by_order q y ys t Greater e i =
           let l : R y x ≡ Less = o.antisymm y x ∙ ap ordering_reverse e in
-          let f : below y ≡ false → is_in below p (x ∷ xs) ≡ p = none_below place y p (x ∷ xs) (l, further y x xs l s.0) in
+          let f : below y ≡ false → is_in below p (x ∷ xs) ≡ p = none_below place y p (x ∷ xs) (l, above_lower o y x xs l s.0) in
           emitted (op p q) (op p (not q)) y (merge_behind R op p x next (not q) ys) (λ n. i ∙ (λ j. op (f n j) (none_below place y (not q) ys t.0 n j)))
           ∙ ap (λ w. cond (below y) w (op p q)) i
           ∙ second_turns op p q (is_in below p (x ∷ xs)) (is_in below (not q) ys) (below y) f

@@ -9,6 +9,7 @@ use Rattle.std.proofs.lemmas.Cmp.{tied_itself, alike_right}
 use Rattle.vx_spec.specs.Ascending.{IsAscending}
 use Rattle.vx_line.specs.Line.{IsPlace, IsLevel, is_in}
 use Rattle.vx_line.proofs.PlaceLaws.{none_below}
+use Rattle.vx_line.proofs.Above.{above_lower}
 
 module _ {C : Type 0} {R : C → C → Ordering} (o : IsTotalOrder R) where
   not_above : (c d e : C) (r s : Ordering) → R c e ≡ r → R d e ≡ s → R c d ≡ Less → not (is_gt r) ≡ false → not (is_gt s) ≡ false
@@ -44,10 +45,6 @@ module _ {C : Type 0} {R : C → C → Ordering} (o : IsTotalOrder R) where
   pub turned : (x : C) (p : Bool) (xs : List C) → AllByRecursion (λ d. R x d ≡ Less) xs → is_in (λ c. not (is_gt (R c x))) p (x ∷ xs) ≡ not p
   turned x p xs h = rw (itself x) (all_above x (not p) xs h)
 
-  lower : (c d : C) (list : List C) → R c d ≡ Less → AllByRecursion (λ e. R d e ≡ Less) list → AllByRecursion (λ e. R c e ≡ Less) list
-  lower c d [] l h = tt
-  lower c d (e ∷ list) l h = (o.trans c d e l h.0, lower c d list l h.1)
-
   never : (p : Bool) → p ≡ not p → ⊥
   never true e = cc
   never false e = cc
@@ -64,10 +61,10 @@ module _ {C : Type 0} {R : C → C → Ordering} (o : IsTotalOrder R) where
       → (((below : C → Bool) → IsPlace R below → is_in below (not p) xs ≡ is_in below (not p) ys) → IsLevel R xs ys)
       → IsLevel R (x ∷ xs) (y ∷ ys)
   level_by p x xs y ys s t same Less e i =
-      absurd (never p (sym (all_above x p (y ∷ ys) (e, lower x y ys e t.0)) ∙ sym (same (λ c. not (is_gt (R c x))) (above_cut x)) ∙ turned x p xs s.0))
+      absurd (never p (sym (all_above x p (y ∷ ys) (e, above_lower o x y ys e t.0)) ∙ sym (same (λ c. not (is_gt (R c x))) (above_cut x)) ∙ turned x p xs s.0))
   level_by p x xs y ys s t same Greater e i =
       let l : R y x ≡ Less = o.antisymm y x ∙ ap ordering_reverse e in
-      absurd (never p (sym (all_above y p (x ∷ xs) (l, lower y x xs l s.0)) ∙ same (λ c. not (is_gt (R c y))) (above_cut y) ∙ turned y p ys t.0))
+      absurd (never p (sym (all_above y p (x ∷ xs) (l, above_lower o y x xs l s.0)) ∙ same (λ c. not (is_gt (R c y))) (above_cut y) ∙ turned y p ys t.0))
   level_by p x xs y ys s t same Equal e i =
       (e, i (λ below place. strip (below x) (below y) p (is_in below (not p) xs) (is_in below (not p) ys) (place.alike x y e) (same below place) (λ n. none_below place x (not p) xs s.0 n ∙ sym (none_below place y (not p) ys t.0 (sym (place.alike x y e) ∙ n)))))
 

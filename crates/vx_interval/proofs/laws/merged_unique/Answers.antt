@@ -1,4 +1,4 @@
-use Rattle.vx_line.proofs.Kept.{merged_unique}
+use Rattle.vx_line.proofs.MergedLaws.{merged_unique}
 use Rattle.vx_interval.proofs.SpanLaws.{cut_total}
 use Rattle.vx_interval.proofs.laws.merged_unique.Goals as goal
 

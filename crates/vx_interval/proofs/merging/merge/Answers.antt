@@ -1,7 +1,7 @@
 use Rattle.std.proofs.Common.{subst, sym}
 use Rattle.vx_scheme.specs.Cuts.{cut_cmp}
 use Rattle.vx_line.specs.Line.{IsMerged}
-use Rattle.vx_line.proofs.Kept.{merge_merged}
+use Rattle.vx_line.proofs.MergedLaws.{merge_merged}
 use Rattle.vx_interval.specs.Operations.{op_of}
 use Rattle.vx_interval.proofs.SpanLaws.{cut_total}
 use Rattle.vx_interval.proofs.merging.merge.Goals as goal

@@ -1,5 +1,4 @@
-use Rattle.std.proofs.Common.{subst, sym, ◌∙◌}
-use Rattle.vx_scheme.specs.Cuts.{IsInOrder}
+use Rattle.std.proofs.Common.{sym}
 use Rattle.vx_interval.proofs.SpanLaws.{seen_in_order}
 use Rattle.vx_interval.proofs.set.Set.into_spans.Goals as goal
 

@@ -1,4 +1,4 @@
--- Each cut of a merge is one of the first list, or one of the second that is order-equal to none of the first.
+-- What a merge of two lists of cuts answers, and that this determines it.
 use Rattle.std.proofs.Common.{ℕ, ◌≡◌, ◌≢◌, Bool, false, List, [], ◌∷◌, None, refl, sym, ap, ◌∙◌, inl, inr, All, Contains}
 use Rattle.std.specs.declared.cmp.Ordering.{Ordering}
 use Rattle.std.specs.declared.cmp.Ordering.TheVariants.{Less, Equal, Greater}
