@@ -1,13 +1,14 @@
 -- The joined spans of bounds.
-use Rattle.std.specs.Prelude.{◌≡◌, ℕ, Bool, false, Some, List, [], ◌∷◌, ◌++◌}
+use Rattle.std.specs.Prelude.{◌≡◌, ℕ, false, Some, List, [], ◌∷◌, ◌++◌}
 use Rattle.std.specs.List.{AllByRecursion}
 use Rattle.std.specs.declared.cmp.Ordering.{Ordering}
 use Rattle.vx_spec.specs.Ascending.{IsAscending}
 use Rattle.vx_scheme.specs.declared.span.Cut.{Cut}
 use Rattle.vx_scheme.specs.declared.span.Span.{Span}
 use Rattle.vx_scheme.specs.Cuts.{cut_cmp, cuts_of, spans_of, spans_at, bounds_at, IsInOrder}
-use Rattle.vx_line.specs.Line.{IsPlace, judged}
+use Rattle.vx_line.specs.Line.{judged}
 use Rattle.vx_line.specs.Least.{first_least}
+use Rattle.vx_interval.specs.Sets.{AtEachPlace}
 
 -- the cuts of an alternative, read from left to right, lower before upper
 abbrev pub terms_cuts : {V : Type 0} → List (List (Span V)) → List (Cut V)
@@ -31,7 +32,7 @@ IsLeastOf order made cut = first_least mark_of (cut_cmp order) cut made ≡ Some
 -- that covers it; they are in order and apart, so that each is a whole run of neighbouring pieces that are in; and
 -- each of their cuts is the least of the made cuts order-equal to it.
 pub record IsJoined {V : Type 0} (order : V → V → Ordering) (bounds : List (List (List (Span V)))) (spans : List (Span V)) : Type 0 where
-  pub pieces : (below : Cut V → Bool) → IsPlace (cut_cmp order) below → spans_at below spans ≡ bounds_at below bounds
+  pub pieces : AtEachPlace order (λ below. spans_at below spans ≡ bounds_at below bounds)
   pub in_order : IsInOrder order spans
   pub carried : AllByRecursion (IsLeastOf order (made_cuts bounds)) (cuts_of spans)
 

@@ -1,4 +1,4 @@
--- Words of the steps by which sets are joined and handed out.
+-- Places of the line of versions, and words of the steps by which sets are joined and handed out.
 use Rattle.std.specs.Prelude.{Bool, true, false, cond, Option, Some, None, List, [], ◌∷◌}
 use Rattle.std.specs.List.{list_any, list_all}
 use Rattle.std.specs.Ordering.{is_lt}
@@ -6,6 +6,11 @@ use Rattle.std.specs.declared.cmp.Ordering.{Ordering}
 use Rattle.vx_scheme.specs.declared.span.Cut.{Cut}
 use Rattle.vx_scheme.specs.declared.span.Span.{Span}
 use Rattle.vx_scheme.specs.Cuts.{cut_cmp, spans_at, spans_of}
+use Rattle.vx_line.specs.Line.{IsPlace}
+
+-- the fact holds at each place of the line, which is given by the cuts that stand below it
+abbrev pub AtEachPlace : {V : Type 0} → (V → V → Ordering) → ((Cut V → Bool) → Type 0) → Type 0
+AtEachPlace {V} order P = (below : Cut V → Bool) → IsPlace (cut_cmp order) below → P below
 
 -- the place is in all of the sets, or in one of them
 abbrev pub joined_at : {V : Type 0} → (Cut V → Bool) → Bool → List (List (Span V)) → Bool

@@ -1,8 +1,6 @@
 ghost use Rattle.std.specs.Prelude.{◌≡◌, ◌<◌, ◌++◌, ◌∷◌, [], Bool, length, IfOk, OnOk, MatchOption};
-ghost use Rattle.vx_scheme.specs.declared.span.Cut.{Cut};
-ghost use Rattle.vx_scheme.specs.Cuts.{cut_cmp, spans_at, terms_at, bounds_at};
-ghost use Rattle.vx_line.specs.Line.{IsPlace};
-ghost use Rattle.vx_interval.specs.Sets.{joined_at};
+ghost use Rattle.vx_scheme.specs.Cuts.{spans_at, terms_at, bounds_at};
+ghost use Rattle.vx_interval.specs.Sets.{AtEachPlace, joined_at};
 
 use crate::set::Set;
 use std::alloc::Global;
@@ -20,7 +18,9 @@ fn put<S: Scheme>(sets: &mut VecDeque<Set<S>>, set: Set<S>) -> Result<(), NoMemo
 
 /// The first two sets of a queue, where there are two.
 fn take_two<S: Scheme>(sets: &mut VecDeque<Set<S>>) -> Option<(Set<S>, Set<S>)>
-    ensures { MatchOption result ((length sets.old.items < 2) × (sets.new.items ≡ sets.old.items)) (λ two. sets.old.items ≡ two.0 ∷ two.1 ∷ sets.new.items) }
+    ensures { MatchOption result
+        ((length sets.old.items < 2) × (sets.new.items ≡ sets.old.items))
+        (λ two. sets.old.items ≡ two.0 ∷ two.1 ∷ sets.new.items) }
 {
     if sets.len() < 2 {
         return None;
@@ -30,13 +30,15 @@ fn take_two<S: Scheme>(sets: &mut VecDeque<Set<S>>) -> Option<(Set<S>, Set<S>)>
     Some((first, second))
 }
 
-/// What is in all of the sets, or in one of them. Neighbours are joined in rounds, so that a cut is looked at once for each halving of their number.
+/// What is in all of the sets, or in one of them. Neighbours are joined in rounds, so that a cut is looked at once for
+/// each halving of their number.
 fn join_all<S: Scheme>(
     alloc: Global,
     both: bool,
     mut sets: VecDeque<Set<S>>,
 ) -> Result<Set<S>, NoMemory>
-    ensures { IfOk result (λ set. (below : Cut S.Version → Bool) → IsPlace (cut_cmp S.order) below → spans_at below set ≡ joined_at below both sets.items) }
+    ensures { IfOk result (λ set.
+        AtEachPlace S.order (λ below. spans_at below set ≡ joined_at below both sets.items)) }
 {
     while let Some((first, second)) = take_two(&mut sets) {
         let set = first.join(both, second)?;
@@ -51,7 +53,7 @@ fn join_all<S: Scheme>(
 
 /// What a term holds.
 fn of_term<S: Scheme>(alloc: Global, term: Spans<S::Version>) -> Result<Set<S>, NoMemory>
-    ensures { IfOk result (λ set. (below : Cut S.Version → Bool) → IsPlace (cut_cmp S.order) below → spans_at below set ≡ spans_at below term) }
+    ensures { IfOk result (λ set. AtEachPlace S.order (λ below. spans_at below set ≡ spans_at below term)) }
 {
     let mut sets = VecDeque::new(alloc);
     for span in term.into_vec() {
@@ -66,7 +68,7 @@ fn of_alternative<S: Scheme>(
     alloc: Global,
     terms: Alternative<S::Version>,
 ) -> Result<Set<S>, NoMemory>
-    ensures { IfOk result (λ set. (below : Cut S.Version → Bool) → IsPlace (cut_cmp S.order) below → spans_at below set ≡ terms_at below terms) }
+    ensures { IfOk result (λ set. AtEachPlace S.order (λ below. spans_at below set ≡ terms_at below terms)) }
 {
     let mut sets = VecDeque::new(alloc);
     for term in terms.into_vec() {
@@ -81,7 +83,7 @@ pub(crate) fn of_bounds<S: Scheme>(
     alloc: Global,
     bounds: Bounds<S::Version>,
 ) -> Result<Set<S>, NoMemory>
-    ensures { IfOk result (λ set. (below : Cut S.Version → Bool) → IsPlace (cut_cmp S.order) below → spans_at below set ≡ bounds_at below bounds) }
+    ensures { IfOk result (λ set. AtEachPlace S.order (λ below. spans_at below set ≡ bounds_at below bounds)) }
 {
     let mut sets = VecDeque::new(alloc);
     for terms in bounds.into_vec() {

@@ -122,9 +122,16 @@ fn take<C: Compares, L: Ledger>(
     ys: &mut VecDeque<Cut<C::Item>>,
     steps: &mut Steps<L>,
 ) -> Option<Taken<C::Item>>
-    ensures whole { (op : Bool → Bool → Bool) (p q : Bool) → MatchOption result (merge_by (cut_cmp C.order) op p xs.old.items q ys.old.items ≡ []) (λ t. merge_by (cut_cmp C.order) op p xs.old.items q ys.old.items ≡ emit (op p q) (op (turned t.of_first p) (turned t.of_second q)) t.cut (merge_by (cut_cmp C.order) op (turned t.of_first p) xs.new.items (turned t.of_second q) ys.new.items)) }
-    ensures fewer { MatchOption result (steps.new ≡ steps.old) (λ _. length xs.new.items + length ys.new.items < length xs.old.items + length ys.old.items) }
-    ensures bound { MatchOption result (steps.new ≡ steps.old) (λ _. steps.new + (length xs.new.items + length ys.new.items) ≤ steps.old + (length xs.old.items + length ys.old.items)) }
+    ensures whole { (op : Bool → Bool → Bool) (p q : Bool) → MatchOption result
+        (merge_by (cut_cmp C.order) op p xs.old.items q ys.old.items ≡ [])
+        (λ t. merge_by (cut_cmp C.order) op p xs.old.items q ys.old.items ≡
+        emit (op p q) (op (turned t.of_first p) (turned t.of_second q)) t.cut
+        (merge_by (cut_cmp C.order) op (turned t.of_first p) xs.new.items (turned t.of_second q) ys.new.items)) }
+    ensures fewer { MatchOption result (steps.new ≡ steps.old) (λ _.
+        length xs.new.items + length ys.new.items < length xs.old.items + length ys.old.items) }
+    ensures bound { MatchOption result (steps.new ≡ steps.old) (λ _.
+        steps.new + (length xs.new.items + length ys.new.items) ≤
+        steps.old + (length xs.old.items + length ys.old.items)) }
 {
     match turn::<C, L>(xs, ys, steps)? {
         Ordering::Less => {
@@ -155,7 +162,8 @@ fn take<C: Compares, L: Ledger>(
     }
 }
 
-/// The cuts at which the operation's answer changes, where `a_starts` and `b_starts` say what lies below the first cuts.
+/// The cuts at which the operation's answer changes. `a_starts` and `b_starts` say whether the pieces below the first
+/// cuts are in.
 fn merge_by_operation<C: Compares, L: Ledger>(
     alloc: Global,
     operation: Operation,

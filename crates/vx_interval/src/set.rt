@@ -4,11 +4,12 @@ ghost use Rattle.vx_spec.specs.Ascending.{IsAscending};
 ghost use Rattle.vx_scheme.specs.declared.span.Cut.{Cut};
 ghost use Rattle.vx_scheme.specs.declared.span.Span.{Span};
 ghost use Rattle.vx_scheme.specs.Cuts.{cut_cmp, cut_below, cuts_of, starts_of, spans_of, spans_at, in_spans, IsInOrder};
-ghost use Rattle.vx_line.specs.Line.{IsPlace, IsFirstKept, is_in, join_by};
+ghost use Rattle.vx_line.specs.Line.{IsFirstKept, is_in, join_by};
 ghost use Rattle.vx_line.specs.Merges.{merge_by};
-ghost use Rattle.vx_interval.specs.Sets.{one_span, spans_from};
+ghost use Rattle.vx_interval.specs.Sets.{AtEachPlace, one_span, spans_from};
 
 use crate::merging::{Cuts, merge_versions, take_from_table};
+use crate::operation::Operation;
 use std::alloc::Global;
 use std::cmp::Ordering;
 use std::marker::{Brand, Model};
@@ -40,6 +41,7 @@ impl<S: Scheme> Set<S> {
     pub fn none(alloc: Global) -> Set<S>
         ensures spans { result ≡ [] }
         ensures members { (v : S.Version) → in_spans S.order result v ≡ false }
+        ensures at { AtEachPlace S.order (λ below. spans_at below result ≡ false) }
     {
         Set {
             starts: false,
@@ -51,6 +53,7 @@ impl<S: Scheme> Set<S> {
     pub fn every(alloc: Global) -> Result<Set<S>, NoMemory>
         ensures spans { IsOkAnd result (λ set. set ≡ record { lower = None; upper = None } ∷ []) }
         ensures members { IfOk result (λ set. (v : S.Version) → in_spans S.order set v ≡ true) }
+        ensures at { IfOk result (λ set. AtEachPlace S.order (λ below. spans_at below set ≡ true)) }
     {
         Ok(Set {
             starts: true,
@@ -60,9 +63,12 @@ impl<S: Scheme> Set<S> {
 
     /// What is in either set. Of two order-equal cuts the one of `self` is kept.
     pub fn union(self, other: Set<S>) -> Result<Set<S>, NoMemory>
-        ensures members { IfOk result (λ set. (v : S.Version) → in_spans S.order set v ≡ (in_spans S.order self v || in_spans S.order other v)) }
-        ensures at { IfOk result (λ set. (below : Cut S.Version → Bool) → IsPlace (cut_cmp S.order) below → spans_at below set ≡ (spans_at below self || spans_at below other)) }
-        ensures kept { IfOk result (λ set. All (IsFirstKept (cut_cmp S.order) (cuts_of self) (cuts_of other)) (cuts_of set)) }
+        ensures members { IfOk result (λ set.
+            (v : S.Version) → in_spans S.order set v ≡ (in_spans S.order self v || in_spans S.order other v)) }
+        ensures at { IfOk result (λ set.
+            AtEachPlace S.order (λ below. spans_at below set ≡ (spans_at below self || spans_at below other))) }
+        ensures kept { IfOk result (λ set.
+            All (IsFirstKept (cut_cmp S.order) (cuts_of self) (cuts_of other)) (cuts_of set)) }
     {
         let set = self.join(false, other)?;
         Ok(set)
@@ -70,9 +76,12 @@ impl<S: Scheme> Set<S> {
 
     /// What is in both sets. Of two order-equal cuts the one of `self` is kept.
     pub fn intersect(self, other: Set<S>) -> Result<Set<S>, NoMemory>
-        ensures members { IfOk result (λ set. (v : S.Version) → in_spans S.order set v ≡ (in_spans S.order self v && in_spans S.order other v)) }
-        ensures at { IfOk result (λ set. (below : Cut S.Version → Bool) → IsPlace (cut_cmp S.order) below → spans_at below set ≡ (spans_at below self && spans_at below other)) }
-        ensures kept { IfOk result (λ set. All (IsFirstKept (cut_cmp S.order) (cuts_of self) (cuts_of other)) (cuts_of set)) }
+        ensures members { IfOk result (λ set.
+            (v : S.Version) → in_spans S.order set v ≡ (in_spans S.order self v && in_spans S.order other v)) }
+        ensures at { IfOk result (λ set.
+            AtEachPlace S.order (λ below. spans_at below set ≡ (spans_at below self && spans_at below other))) }
+        ensures kept { IfOk result (λ set.
+            All (IsFirstKept (cut_cmp S.order) (cuts_of self) (cuts_of other)) (cuts_of set)) }
     {
         let set = self.join(true, other)?;
         Ok(set)
@@ -82,7 +91,7 @@ impl<S: Scheme> Set<S> {
     pub fn complement(self) -> Result<Set<S>, NoMemory>
         ensures cuts { IsOkAnd result (λ set. cuts_of set ≡ cuts_of self) }
         ensures members { IfOk result (λ set. (v : S.Version) → in_spans S.order set v ≡ not (in_spans S.order self v)) }
-        ensures at { IfOk result (λ set. (below : Cut S.Version → Bool) → IsPlace (cut_cmp S.order) below → spans_at below set ≡ not (spans_at below self)) }
+        ensures at { IfOk result (λ set. AtEachPlace S.order (λ below. spans_at below set ≡ not (spans_at below self))) }
     {
         let Set { starts, cuts } = self;
         Ok(Set {
@@ -129,7 +138,7 @@ impl<S: Scheme> Set<S> {
         ensures spans { result ≡ spans_of starts_in cuts }
         ensures starts { starts_of result ≡ starts_in }
         ensures cuts { cuts_of result ≡ cuts }
-        ensures at { (below : Cut S.Version → Bool) → IsPlace (cut_cmp S.order) below → spans_at below result ≡ is_in below starts_in cuts }
+        ensures at { AtEachPlace S.order (λ below. spans_at below result ≡ is_in below starts_in cuts) }
     {
         Set {
             starts: starts_in,
@@ -156,22 +165,28 @@ impl<S: Scheme> Set<S> {
 
     /// What is in both sets, or in one of them.
     pub(crate) fn join(self, both: bool, other: Set<S>) -> Result<Set<S>, NoMemory>
-        ensures members { IfOk result (λ set. (v : S.Version) → in_spans S.order set v ≡ join_by both (in_spans S.order self v) (in_spans S.order other v)) }
-        ensures at { IfOk result (λ set. (below : Cut S.Version → Bool) → IsPlace (cut_cmp S.order) below → spans_at below set ≡ join_by both (spans_at below self) (spans_at below other)) }
-        ensures kept { IfOk result (λ set. All (IsFirstKept (cut_cmp S.order) (cuts_of self) (cuts_of other)) (cuts_of set)) }
+        ensures members { IfOk result (λ set.
+            (v : S.Version) → in_spans S.order set v ≡ join_by both (in_spans S.order self v) (in_spans S.order other v)) }
+        ensures at { IfOk result (λ set.
+            AtEachPlace S.order (λ below. spans_at below set ≡ join_by both (spans_at below self) (spans_at below other))) }
+        ensures kept { IfOk result (λ set.
+            All (IsFirstKept (cut_cmp S.order) (cuts_of self) (cuts_of other)) (cuts_of set)) }
     {
         let Set { starts: p, cuts: a } = self;
         let Set { starts: q, cuts: b } = other;
         let alloc = a.alloc();
         let cuts = merge_versions::<S, Brand>(Blank::new(1), alloc, both, p, a, q, b)?;
-        let starts = joined(both, p, q);
+        let operation = Operation::joining(both);
+        let starts = operation.apply(p, q);
         Ok(Set { starts, cuts })
     }
 
     /// The same set, with those cuts of a table that are order-equal to its own.
     pub(crate) fn relabel(self, table: Cuts<S::Version>) -> Result<Set<S>, NoMemory>
         requires { IsAscending (cut_cmp S.order) table }
-        ensures cuts { IfOk result (λ set. set ≡ spans_of (starts_of self) (merge_by (cut_cmp S.order) (λ p q. q) false table (starts_of self) (cuts_of self))) }
+        ensures cuts { IfOk result (λ set.
+            set ≡ spans_of (starts_of self)
+            (merge_by (cut_cmp S.order) (λ p q. q) false table (starts_of self) (cuts_of self))) }
         ensures in_order { OnOk result (IsInOrder S.order self) }
     {
         let Set { starts, cuts } = self;
@@ -211,13 +226,6 @@ impl<S: Scheme> Set<S> {
             }
         }
     }
-}
-
-/// In both of two, or in one of them.
-fn joined(both: bool, p: bool, q: bool) -> bool
-    ensures { result ≡ join_by both p q }
-{
-    if both { p && q } else { p || q }
 }
 
 fn is_less<S: Scheme>(a: &Cut<S::Version>, b: &Cut<S::Version>) -> bool
@@ -264,7 +272,8 @@ fn pass_cut<V: Drop>(
     lower: Option<Cut<V>>,
     cut: Cut<V>,
 ) -> Result<Option<Cut<V>>, NoMemory>
-    ensures { IfOk result (λ next. (rest : List (Cut V)) → spans.new ++ spans_from (not inside) next rest ≡ spans.old ++ spans_from inside lower (cut ∷ rest)) }
+    ensures { IfOk result (λ next. (rest : List (Cut V)) →
+        spans.new ++ spans_from (not inside) next rest ≡ spans.old ++ spans_from inside lower (cut ∷ rest)) }
 {
     if inside {
         spans.push(Span {

@@ -24,7 +24,10 @@ fn next_least<C: Compares, L: Ledger>(
     ys: &mut VecDeque<Cut<C::Item>>,
     steps: &mut Steps<L>,
 ) -> Option<Cut<C::Item>>
-    ensures whole { MatchOption result (unite mark_of (cut_cmp C.order) xs.old.items ys.old.items ≡ []) (λ cut. unite mark_of (cut_cmp C.order) xs.old.items ys.old.items ≡ cut ∷ unite mark_of (cut_cmp C.order) xs.new.items ys.new.items) }
+    ensures whole { MatchOption result
+        (unite mark_of (cut_cmp C.order) xs.old.items ys.old.items ≡ [])
+        (λ cut. unite mark_of (cut_cmp C.order) xs.old.items ys.old.items ≡
+        cut ∷ unite mark_of (cut_cmp C.order) xs.new.items ys.new.items) }
     ensures fewer { OnSome result (length xs.new.items + length ys.new.items < length xs.old.items + length ys.old.items) }
 {
     match turn::<C, L>(xs, ys, steps)? {

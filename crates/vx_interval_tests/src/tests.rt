@@ -178,8 +178,16 @@ fn unions_and_intersections(rt: HostRuntime) -> Result<(), Fail> {
                 let version = Levels::read(alloc, text)?;
                 let in_a = is_in_kind(a, version.level);
                 let in_b = is_in_kind(b, version.level);
-                assert_eq!(rt; either.contains(&version), in_a || in_b, "{a} or {b} at {text}");
-                assert_eq!(rt; both.contains(&version), in_a && in_b, "{a} and {b} at {text}");
+                assert_eq!(rt;
+                    either.contains(&version),
+                    in_a || in_b,
+                    "{a} or {b} at {text}"
+                );
+                assert_eq!(rt;
+                    both.contains(&version),
+                    in_a && in_b,
+                    "{a} and {b} at {text}"
+                );
             }
         }
     }
