@@ -12,3 +12,6 @@ pub use escapes::{EscapeFault, escape, escapes_are_undone, round_trip, unescape}
 pub use folding::{lower, same_folded};
 pub use marks::{cut, parts};
 pub use numerals::{NumeralFault, is_numeral, numeral};
+
+#[cfg(test)]
+mod tests;
