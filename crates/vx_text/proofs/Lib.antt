@@ -1,1 +1,3 @@
 pub mod EscapeLaws
+pub mod Joins
+pub mod PieceLaws

@@ -1,2 +1,4 @@
 pub mod Escapes
+pub mod Folding
 pub mod Numeral
+pub mod Pieces
