@@ -16,7 +16,7 @@ mod translating;
 mod usage;
 mod writing;
 
-ghost use Rattle.std.specs.Prelude.{◌≡◌, ◌⊎◌, IfErr};
+ghost use Rattle.std.specs.Prelude.{◌≡◌, ◌≢◌, ◌↔◌, ◌⊎◌, IfErr};
 
 use crate::running::run;
 use crate::standard::{StdSink, StdSource};
@@ -34,19 +34,25 @@ const NO_WORDS: u8 = 7;
 fn words(rt: &HostRuntime) -> Result<Vec<String>, u8>
     ensures { IfErr result (λ status. (status ≡ NO_MEMORY) ⊎ (status ≡ NO_WORDS)) }
 {
-    let mut args = env::args(rt).map_err(|error| {
-        if error.kind() == ErrorKind::OutOfMemory {
-            NO_MEMORY
-        } else {
-            NO_WORDS
-        }
-    })?;
+    let mut args = env::args(rt).map_err(|error| refused_words(error.kind()))?;
     let _ = args.next();
     let mut words = Vec::new(rt.alloc());
     for word in args {
         words.push(word).map_err(|_| NO_MEMORY)?;
     }
     Ok(words)
+}
+
+// The status to end with, where the words are refused for this cause.
+fn refused_words(cause: ErrorKind) -> u8
+    ensures no_memory { (result ≡ NO_MEMORY) ↔ (cause ≡ ErrorKind.OutOfMemory) }
+    ensures other { (result ≡ NO_WORDS) ↔ (cause ≢ ErrorKind.OutOfMemory) }
+{
+    if cause == ErrorKind::OutOfMemory {
+        NO_MEMORY
+    } else {
+        NO_WORDS
+    }
 }
 
 fn main(rt: HostRuntime) -> ExitCode {

@@ -1,8 +1,8 @@
-ghost use Rattle.std.specs.Prelude.{◌≡◌, ◌<◌, ◌≤◌, ◌+◌, ◌==◌, ◌||◌, ◌&&◌, [], List, ℕ, Option, Some, min, length, IfOk, OnErr, is_err, not};
+ghost use Rattle.std.specs.Prelude.{◌≡◌, ◌<◌, ◌≤◌, ◌+◌, ◌==◌, ◌||◌, ◌&&◌, [], List, ℕ, Option, Some, min, length, take, IfOk, OnErr, is_err, not};
 ghost use Rattle.std.specs.Io.{WritesAtMost};
 ghost use Rattle.std.specs.Io.KnownBytes.{WriteAppends};
 ghost use Rattle.vx_cli.specs.Outside.{HasCause};
-ghost use Rattle.vx_cli.specs.Store.{Store, next_call, is_listed};
+ghost use Rattle.vx_cli.specs.Store.{Store, is_listed, with_piece, with_fault};
 
 use crate::outside::{Failed, Sink};
 use std::alloc::Global;
@@ -72,13 +72,14 @@ impl Sink for MemorySink {
         ensures progress { IfOk result (λ n. 0 < length bytes.now → 0 < n) }
         ensures bytes { WriteAppends (Some self.old.bytes) (Some self.new.bytes) result bytes.now }
         ensures cause { HasCause self.old.faults self.new.faults result }
-        // What fits is taken.
-        ensures most { IfOk result (λ n. n ≡ min (length bytes.now) self.old.room) }
-        ensures room { IfOk result (λ n. self.new.room + n ≡ self.old.room) }
+
         // The listed calls fail, and those that find no room for a piece, and no others.
         ensures listed { is_err result ≡ (is_listed self.old.fails self.old.calls || ((self.old.room == 0) && not (length bytes.now == 0))) }
-        ensures calls { (self.new.calls ≡ next_call self.old.calls) × (self.new.fails ≡ self.old.fails) }
-        ensures err { OnErr result (self.new.room ≡ self.old.room) }
+
+        // What fits is taken, and a call that fails counts a fault.
+        ensures most { IfOk result (λ n. n ≡ min (length bytes.now) self.old.room) }
+        ensures taken { IfOk result (λ n. self.new ≡ with_piece self.old (take n bytes.now)) }
+        ensures failed { OnErr result (self.new ≡ with_fault self.old) }
     {
         self.calls = self.calls.saturating_add(1);
         let count = bytes.len().min(self.room);
