@@ -2,7 +2,7 @@
 use Rattle.std.specs.Prelude.{ℕ, List, [], ◌∷◌, ◌++◌, Bool, Option, Result, Ok, Err, if◌then◌else◌}
 use Rattle.std.specs.Io.KnownBytes.{Appends}
 use Rattle.vx_cli.specs.Answers.{IsAnswer}
-use Rattle.vx_cli.specs.Translated.{IsTranslation}
+use Rattle.vx_cli.specs.Translations.{IsTranslation}
 use Rattle.vx_cli.specs.Outside.{AppendsFront}
 use Rattle.vx_cli.specs.declared.status.Status.{Status}
 use Rattle.vx_cli.specs.declared.status.Status.TheVariants as status_of

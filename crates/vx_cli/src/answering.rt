@@ -1,52 +1,93 @@
-ghost use Rattle.std.specs.Prelude.{◌≡◌, ◌↔◌, ◌<◌, length, slice_get, Some, IsTrue, true, false, MatchOption, IfOk};
-ghost use Rattle.vx_cli.specs.Answers.{IsAnswer, HasRange, LacksRange};
-ghost use Rattle.vx_cli.specs.Translated.{ok_line};
+ghost use Rattle.std.specs.Prelude.{◌≡◌, ◌++◌, ◌∷◌, [], true, nat_lt, IfOk, codes, bytes_eq};
+ghost use Rattle.vx_cli.specs.Answers.{IsAnswer, AnswersRange, AnswersScheme, AnswersFields, scheme_named};
+ghost use Rattle.vx_cli.specs.Fields.{joined_length};
 
 use crate::fields::{Fields, joined_length};
+use crate::names::{domain_named, scheme_named};
+use crate::refusing::{refused, refused_by};
 use crate::reply::Answer;
-use crate::translating::constraints_of;
-use npm_range::{NpmRange, read_pair};
 use std::alloc::Global;
-use vx_scheme::{NoMemory, RangeFault, Text};
-use vx_vers::{Constraints, write};
+use vx_scheme::{Domain, NoMemory, SchemeName, Text};
+use vx_translate::{Refusal, to_vers};
 
-// Whether the field at a place is this text.
-fn is_at(fields: &Fields, i: usize, text: &str) -> bool
-    requires { i < length fields.now }
-    ensures { IsTrue result ↔ (slice_get fields.now i ≡ Some text.now) }
-{
-    fields.get(i).as_str() == text
-}
+/// The most bytes that a line may have.
+pub const MOST_BYTES: usize = 65_536;
 
-/// The range text of a line whose fields are `to-vers`, `npm`, `all` and a range, of at most 65,536 bytes.
-fn range_of(fields: &Fields) -> Option<&str>
-    ensures { MatchOption result (LacksRange fields.now) (λ range. HasRange fields.now range.now) }
-{
-    if fields.len() != 4 || joined_length(fields) > 65536 {
-        return None;
-    }
-    if is_at(fields, 0, "to-vers") && is_at(fields, 1, "npm") && is_at(fields, 2, "all") {
-        Some(fields.get(3).as_str())
-    } else {
-        None
-    }
-}
-
-fn refused(alloc: Global, line: &str) -> Result<Answer, NoMemory>
-    ensures { IfOk result (λ a. (a.ok ≡ false) × (a.text ≡ line.now)) }
-{
-    let mut text = Text::new(alloc);
-    text.push_str(line)?;
-    Ok(Answer { ok: false, text })
-}
-
-fn accepted(alloc: Global, list: &Constraints<NpmRange>) -> Result<Answer, NoMemory>
-    ensures { IfOk result (λ a. (a.ok ≡ true) × (a.text ≡ ok_line list.now)) }
+// The answer that a line is accepted, with this text.
+fn accepted(alloc: Global, found: &Text) -> Result<Answer, NoMemory>
+    ensures { IfOk result (λ a. (a.ok ≡ true) × (a.text ≡ codes "ok\t" ++ found.now)) }
 {
     let mut text = Text::new(alloc);
     text.push_str("ok\t")?;
-    write::<NpmRange>(list, &mut text)?;
+    text.push_str(found.as_str())?;
     Ok(Answer { ok: true, text })
+}
+
+// The answer to a translation in a domain.
+fn answer_range(
+    alloc: Global,
+    name: SchemeName,
+    domain: Domain,
+    range: &str,
+) -> Result<Answer, NoMemory>
+    ensures { IfOk result (λ a. AnswersRange name domain range.now a.ok a.text) }
+{
+    match to_vers(alloc, name, domain, range) {
+        Ok(text) => {
+            let answer = accepted(alloc, &text)?;
+            Ok(answer)
+        }
+        Err(refusal) => {
+            if refusal == Refusal::NoMemory {
+                return Err(NoMemory);
+            }
+            let answer = refused_by(alloc, refusal)?;
+            Ok(answer)
+        }
+    }
+}
+
+// The answer to a translation, by the fields behind the command.
+fn answer_to_vers(
+    alloc: Global,
+    scheme: &str,
+    domain: &str,
+    range: &str,
+) -> Result<Answer, NoMemory>
+    ensures { IfOk result (λ a. AnswersScheme (scheme_named scheme.now) domain.now range.now a.ok a.text) }
+{
+    let Some(name) = scheme_named(scheme) else {
+        let answer = refused(alloc, "no\t4 BadScheme\t-")?;
+        return Ok(answer);
+    };
+    let Some(domain) = domain_named(name, domain) else {
+        let answer = refused(alloc, "no\t5 BadDomain\t-")?;
+        return Ok(answer);
+    };
+    let answer = answer_range(alloc, name, domain, range)?;
+    Ok(answer)
+}
+
+// The answer to a line that is not too long.
+fn answer_fields(alloc: Global, fields: &[Text]) -> Result<Answer, NoMemory>
+    ensures { IfOk result (λ a. AnswersFields fields.now a.ok a.text) }
+{
+    match fields {
+        [command, scheme, domain, range] => {
+            if command.as_str() == "to-vers" {
+                let answer =
+                    answer_to_vers(alloc, scheme.as_str(), domain.as_str(), range.as_str())?;
+                Ok(answer)
+            } else {
+                let answer = refused(alloc, "no\t0 NotBuilt\t-")?;
+                Ok(answer)
+            }
+        }
+        _ => {
+            let answer = refused(alloc, "no\t0 NotBuilt\t-")?;
+            Ok(answer)
+        }
+    }
 }
 
 /// The answer to the line of these fields.
@@ -54,28 +95,10 @@ fn accepted(alloc: Global, list: &Constraints<NpmRange>) -> Result<Answer, NoMem
 pub fn answer(alloc: Global, fields: &Fields) -> Result<Answer, NoMemory>
     ensures { IfOk result (λ a. IsAnswer fields.now a.ok a.text) }
 {
-    let Some(range) = range_of(fields) else {
-        let answer = refused(alloc, "no\t0 NotBuilt\t-")?;
+    if joined_length(fields) > MOST_BYTES {
+        let answer = refused(alloc, "no\t1 LineTooLong\t-")?;
         return Ok(answer);
-    };
-    let pair = match read_pair(alloc, range.as_bytes()) {
-        Ok(pair) => pair,
-        Err(fault) => {
-            if fault == RangeFault::NoMemory {
-                return Err(NoMemory);
-            }
-            let answer = refused(alloc, "no\t0 NotBuilt\t-")?;
-            return Ok(answer);
-        }
-    };
-    match constraints_of(alloc, pair)? {
-        Some(list) => {
-            let answer = accepted(alloc, &list)?;
-            Ok(answer)
-        }
-        None => {
-            let answer = refused(alloc, "no\t10 Empty\t-")?;
-            Ok(answer)
-        }
     }
+    let answer = answer_fields(alloc, fields.as_slice())?;
+    Ok(answer)
 }

@@ -4,6 +4,7 @@
 mod answering;
 mod fields;
 mod memory_sink;
+mod names;
 mod outside;
 mod plain_source;
 mod reply;
@@ -12,7 +13,7 @@ mod standard;
 mod status;
 #[cfg(test)]
 mod tests;
-mod translating;
+mod refusing;
 mod usage;
 mod writing;
 
