@@ -1,4 +1,5 @@
-ghost use Rattle.std.specs.Prelude.{◌≡◌, ◌↔◌, ◌≤◌, ◌++◌, ◌∷◌, List, [], Err, IfOk, OnOk, ForSome, length};
+ghost use Rattle.std.specs.Prelude.{◌≡◌, ◌↔◌, ◌≤◌, ◌++◌, ◌∷◌, List, [], Err, IfOk, OnOk, length};
+ghost use Rattle.std.specs.Option.{ForSome};
 ghost use Rattle.vx_spec.specs.Ascending.{IsAscending};
 ghost use Rattle.vx_scheme.specs.declared.span.Cut.{Cut};
 ghost use Rattle.vx_scheme.specs.Cuts.{cut_cmp, cuts_of, cut_list, in_spans};
@@ -52,6 +53,7 @@ pub fn from_set<S: Scheme>(alloc: Global, set: Set<S>) -> Result<Constraints<S>,
 
 /// A walk over cuts: whether the piece is in that lies below the cut that waits, or below the next one where none
 /// waits. A cut waits until the next one shows whether the two stand for one order class.
+#[derive(Drop)]
 struct Walk<V> {
     inside: bool,
     waiting: Option<Cut<V>>,
@@ -125,10 +127,11 @@ fn end_walk<S: Scheme>(
     requires { ForSome walk.waiting (λ c. IsAboveLast S.order list.old c.version) }
     ensures { OnOk result (list.new ≡ list.old ++ listed S.order walk.inside (cut_list walk.waiting)) }
 {
-    match walk.waiting {
+    let Walk { inside, waiting } = walk;
+    match waiting {
         None => Ok(()),
         Some(cut) => list.push(Constraint {
-            comparator: bound_of(walk.inside, cut.after),
+            comparator: bound_of(inside, cut.after),
             version: cut.version,
         }),
     }
