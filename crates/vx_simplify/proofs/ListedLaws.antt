@@ -1,10 +1,9 @@
 -- The cuts of the list of some cuts are these, up to order-equal ones, so the list means what they say.
-use Rattle.std.proofs.Common.{◌≡◌, ◌≢◌, ℕ, ◌+◌, Bool, true, false, ◌&&◌, ◌||◌, not, cond, List, [], ◌∷◌, refl, sym, ap, ◌∙◌, subst}
+use Rattle.std.proofs.Common.{◌≡◌, ◌≢◌, ℕ, ◌+◌, Bool, true, false, ◌||◌, not, cond, List, [], ◌∷◌, refl, sym, ap, ◌∙◌}
 use Rattle.std.specs.declared.cmp.Ordering.{Ordering}
-use Rattle.std.specs.declared.cmp.Ordering.TheVariants.{Less, Equal, Greater}
-use Rattle.std.specs.Ordering.{is_eq, ordering_then, bool_cmp}
+use Rattle.std.specs.declared.cmp.Ordering.TheVariants.{Equal}
+use Rattle.std.specs.Ordering.{is_eq, bool_cmp}
 use Rattle.std.specs.Cmp.{IsTotalOrder}
-use Rattle.std.specs.List.{list_all}
 use Rattle.std.proofs.lemmas.Cmp.{tied_itself}
 use Rattle.std.proofs.lemmas.Bool.{cond_both}
 use Rattle.vx_spec.specs.Ascending.{IsAscending}
@@ -14,8 +13,8 @@ use Rattle.vx_scheme.specs.Cuts.{cut_cmp, cut_below, cuts_of, starts_of, spans_o
 use Rattle.vx_line.specs.Line.{IsPlace, IsLevel, is_in}
 use Rattle.vx_interval.proofs.SpanLaws.{version_place, has_by_cuts}
 use Rattle.vx_vers.specs.declared.constraints.Constraint.{Constraint}
-use Rattle.vx_vers.specs.Meaning.{Kind, point, hole, opening, closing, kind_of_comparator, kind, opens_next, closes_first, is_hole, meaning}
-use Rattle.vx_simplify.specs.Edges.{is_piece_in, edges_at, edges, cut_at, cuts_after, all_holes}
+use Rattle.vx_vers.specs.Meaning.{Kind, opening, closing, kind_of_comparator, kind, opens_next, closes_first, meaning}
+use Rattle.vx_simplify.specs.Edges.{is_piece_in, edges, cut_at, cuts_after, all_holes}
 use Rattle.vx_simplify.specs.Listed.{bound, exact, with, is_class, listed, list_of}
 use Rattle.vx_simplify.proofs.EdgeLaws.{edges_mean}
 use Rattle.vx_simplify.proofs.ListedOrder.{and_three, eq_of, listed_in_order}

@@ -1,15 +1,18 @@
 -- A walk over cuts pushes its constraints in order.
-use Rattle.std.proofs.Common.{◌≡◌, Bool, true, false, not, List, [], ◌∷◌, ◌++◌, Option, Some, None, refl, sym, ap, subst}
+use Rattle.std.proofs.Common.{◌≡◌, Bool, not, List, [], ◌∷◌, ◌++◌, Option, sym, subst}
 use Rattle.std.specs.Option.{ForSome}
+use Rattle.std.specs.Cmp.{IsTotalOrder}
 use Rattle.std.specs.List.{AllByRecursion}
 use Rattle.std.specs.declared.cmp.Ordering.{Ordering}
 use Rattle.std.specs.declared.cmp.Ordering.TheVariants.{Less}
 use Rattle.std.proofs.lemmas.Bool.{cond_both}
 use Rattle.vx_scheme.specs.declared.span.Cut.{Cut}
-use Rattle.vx_scheme.specs.Cuts.{cut_list}
+use Rattle.vx_spec.specs.Ascending.{IsAscending}
+use Rattle.vx_scheme.specs.Cuts.{cut_cmp, cut_list}
 use Rattle.vx_vers.specs.declared.constraints.Constraint.{Constraint}
 use Rattle.vx_vers.specs.Sorted.{IsSorted, IsAboveLast}
 use Rattle.vx_simplify.specs.Listed.{bound, exact, with, is_class, listed}
+use Rattle.vx_simplify.proofs.ListedOrder.{listed_in_order}
 
 module _ {V : Type 0} (R : V → V → Ordering) where
   below_next : (first item : Constraint V) (list rest : List (Constraint V)) → AllByRecursion (λ later. R first.version later.version ≡ Less) (list ++ item ∷ rest) → R first.version item.version ≡ Less
@@ -29,6 +32,6 @@ module _ {V : Type 0} (R : V → V → Ordering) where
       (λ t h. above_last list (with (exact inside) c) (listed R inside cuts) h) (λ t h. above_last list (with (bound inside c.after) c) (listed R (not inside) (d ∷ cuts)) h) s
 
   -- the version of the cut that waits is above what was written
-  pub above_waiting : (list : List (Constraint V)) (inside : Bool) (waiting : Option (Cut V)) (rest : List (Cut V)) → IsSorted R (list ++ listed R inside (cut_list waiting ++ rest)) → ForSome waiting (λ c. IsAboveLast R list c.version)
-  above_waiting list inside None rest s = search rules
-  above_waiting list inside (Some c) rest s = search (rules, above_cut list inside c rest s)
+  pub above_waiting : (o : IsTotalOrder R) (list : List (Constraint V)) (inside : Bool) (waiting : Option (Cut V)) (rest : List (Cut V)) (starts : Bool) (cuts : List (Cut V)) → IsAscending (cut_cmp R) cuts → list ++ listed R inside (cut_list waiting ++ rest) ≡ listed R starts cuts → ForSome waiting (λ c. IsAboveLast R list c.version)
+  above_waiting o list inside waiting rest starts cuts s so_far c waits =
+      above_cut list inside c rest (subst (λ w. IsSorted R (list ++ listed R inside (cut_list w ++ rest))) waits (subst (IsSorted R) (sym so_far) (listed_in_order o starts cuts s)))
