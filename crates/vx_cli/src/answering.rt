@@ -75,8 +75,12 @@ fn answer_fields(alloc: Global, fields: &[Text]) -> Result<Answer, NoMemory>
     match fields {
         [command, scheme, domain, range] => {
             if command.as_str() == "to-vers" {
-                let answer =
-                    answer_to_vers(alloc, scheme.as_str(), domain.as_str(), range.as_str())?;
+                let answer = answer_to_vers(
+                    alloc,
+                    scheme.as_str(),
+                    domain.as_str(),
+                    range.as_str(),
+                )?;
                 Ok(answer)
             } else {
                 let answer = refused(alloc, "no\t0 NotBuilt\t-")?;

@@ -7,13 +7,13 @@ mod memory_sink;
 mod names;
 mod outside;
 mod plain_source;
+mod refusing;
 mod reply;
 mod running;
 mod standard;
 mod status;
 #[cfg(test)]
 mod tests;
-mod refusing;
 mod usage;
 mod writing;
 
