@@ -60,7 +60,8 @@ module _ {V : Type 0} {R : V → V → Ordering} (o : IsTotalOrder R) where
   IsState false holes before list = (holes ≡ false) × (before ≡ false)
   IsState true holes before list = is_piece_in holes before list ≡ true
 
-  abbrev Holds : Bool → Bool → Bool → ℕ → List (Constraint V) → List (Cut V) → Type 0
+  -- the list begins as the cuts do, and its cuts are these, up to order-equal ones
+  abbrev pub Holds : Bool → Bool → Bool → ℕ → List (Constraint V) → List (Cut V) → Type 0
   Holds inside holes before n list cuts = (is_piece_in holes before list ≡ inside) × IsLevel (cut_cmp R) (edges holes before n list) cuts
 
   cut_itself : (n : ℕ) (c : Cut V) (after : Bool) → after ≡ c.after → cut_cmp R (record { version = c.version; after = after; mark = n }) c ≡ Equal
@@ -134,7 +135,7 @@ module _ {V : Type 0} {R : V → V → Ordering} (o : IsTotalOrder R) where
       (λ w. (holes ≡ true → all_holes w ≡ true) → IsState inside holes before w → Holds inside holes before n w (c ∷ d ∷ cuts))
       (λ t. class_step inside holes before n c d cuts t (λ s e. level_of inside holes before (n + 1) cuts e s))
       (λ t h s. range_step inside holes before n c (listed R (not inside) (d ∷ cuts)) (d ∷ cuts) s (opening_first inside c (listed R (not inside) (d ∷ cuts)))
-        (level_of (not inside) holes (opens_next before (range_kind inside)) (n + 1) (d ∷ cuts) (λ e. absurd (cc (e, not_holes holes (listed R (not inside) (d ∷ cuts)) inside c h))) (next_state inside holes before c (listed R (not inside) (d ∷ cuts)) (listed R (not inside) (d ∷ cuts)) h)))
+      (level_of (not inside) holes (opens_next before (range_kind inside)) (n + 1) (d ∷ cuts) (λ e. absurd (cc (e, not_holes holes (listed R (not inside) (d ∷ cuts)) inside c h))) (next_state inside holes before c (listed R (not inside) (d ∷ cuts)) (listed R (not inside) (d ∷ cuts)) h)))
       h state
 
   -- ---- how things stand in front of the whole list
@@ -170,8 +171,16 @@ module _ {V : Type 0} {R : V → V → Ordering} (o : IsTotalOrder R) where
       ∙ ap (λ p. is_in (λ c. cut_below R c v) p (edges (all_holes list) false 1 list)) holds.0
       ∙ level_means (version_place o v) starts (edges (all_holes list) false 1 list) cuts holds.1
 
+  -- spans in order that are not none have a cut, or hold every version
+  some_cut : (spans : List (Span V)) → IsInOrder R spans → spans ≢ [] → (starts_of spans ≡ false) × (cuts_of spans ≡ []) → ⊥
+  some_cut spans s some none = some (sym s.apart ∙ (λ i. spans_of (none.0 i) (none.1 i)))
+
+  -- the list of spans in order has their cuts, up to order-equal ones
+  pub list_keeps_cuts : (spans : List (Span V)) → IsInOrder R spans → spans ≢ [] → Holds (starts_of spans) (all_holes (list_of R spans)) false 1 (list_of R spans) (cuts_of spans)
+  list_keeps_cuts spans s some = level_whole (starts_of spans) (cuts_of spans) (some_cut spans s some)
+
   -- the list of spans in order means them, where there is a span
   pub list_means : (spans : List (Span V)) (v : V) → IsInOrder R spans → spans ≢ [] → meaning R v (list_of R spans) ≡ in_spans R spans v
   list_means spans v s some =
-      listed_means (starts_of spans) (cuts_of spans) v s.rising (λ none. some (sym s.apart ∙ (λ i. spans_of (none.0 i) (none.1 i))))
+      listed_means (starts_of spans) (cuts_of spans) v s.rising (some_cut spans s some)
       ∙ has_by_cuts o (starts_of spans) (cuts_of spans) spans v s.apart s.rising

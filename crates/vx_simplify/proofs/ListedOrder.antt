@@ -82,8 +82,8 @@ module _ {V : Type 0} {R : V → V → Ordering} (o : IsTotalOrder R) where
   listed_in_order inside (c ∷ d ∷ cuts) s =
       cond_both (is_class R c d) (with (exact inside) c ∷ listed R inside cuts) (with (bound inside c.after) c ∷ listed R (not inside) (d ∷ cuts)) (λ w. IsSorted R w)
       (λ t.
-        let class = and_three c.after d.after (is_eq (R c.version d.version)) t in
-        (versions_above c.version inside cuts (behind_class c.version d cuts (eq_of (R c.version d.version) class.1.1) class.1.0 s.1.0), listed_in_order inside cuts s.1.1))
+      let class = and_three c.after d.after (is_eq (R c.version d.version)) t in
+      (versions_above c.version inside cuts (behind_class c.version d cuts (eq_of (R c.version d.version) class.1.1) class.1.0 s.1.0), listed_in_order inside cuts s.1.1))
       (λ n.
-        let l = apart_less c d (R c.version d.version) refl n s.0.0 in
-        (versions_above c.version (not inside) (d ∷ cuts) (l, behind_cut c.version d cuts l s.1.0), listed_in_order (not inside) (d ∷ cuts) s.1))
+      let l = apart_less c d (R c.version d.version) refl n s.0.0 in
+      (versions_above c.version (not inside) (d ∷ cuts) (l, behind_cut c.version d cuts l s.1.0), listed_in_order (not inside) (d ∷ cuts) s.1))

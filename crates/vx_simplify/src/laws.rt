@@ -2,11 +2,12 @@
 
 ghost use Rattle.std.specs.Prelude.{◌≡◌, ◌≢◌, ◌≤◌, [], List, length};
 ghost use Rattle.vx_scheme.specs.declared.span.Span.{Span};
-ghost use Rattle.vx_scheme.specs.Cuts.{IsInOrder, cuts_of, in_spans};
+ghost use Rattle.vx_scheme.specs.Cuts.{IsInOrder, cut_cmp, cuts_of, starts_of, in_spans};
+ghost use Rattle.vx_line.specs.Line.{IsLevel};
 ghost use Rattle.vx_vers.specs.declared.constraints.Constraint.{Constraint};
 ghost use Rattle.vx_vers.specs.Meaning.{meaning};
 ghost use Rattle.vx_vers.specs.Sorted.{IsSorted};
-ghost use Rattle.vx_simplify.specs.Edges.{spans_of_list};
+ghost use Rattle.vx_simplify.specs.Edges.{starts_in, edges_of, spans_of_list};
 ghost use Rattle.vx_simplify.specs.Listed.{list_of};
 
 use vx_scheme::Scheme;
@@ -25,6 +26,14 @@ pub fn list_is_sorted<S: Scheme>()
 /// The list of spans has at most as many constraints as there are cuts.
 pub fn list_is_short<S: Scheme>()
     ensures { (spans : List (Span S.Version)) → length (list_of S.order spans) ≤ length (cuts_of spans) }
+{}
+
+/// The list of spans in order has their cuts, each up to order-equal ones, where there is a span.
+pub fn list_keeps_cuts<S: Scheme>()
+    ensures starts { (spans : List (Span S.Version)) → IsInOrder S.order spans → spans ≢ [] →
+        starts_in (list_of S.order spans) ≡ starts_of spans }
+    ensures cuts { (spans : List (Span S.Version)) → IsInOrder S.order spans → spans ≢ [] →
+        IsLevel (cut_cmp S.order) (edges_of (list_of S.order spans)) (cuts_of spans) }
 {}
 
 /// The spans of a sorted list are in order, and hold what the list means.

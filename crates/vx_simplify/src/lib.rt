@@ -4,5 +4,5 @@
 mod laws;
 mod listing;
 
-pub use laws::{edges_mean, list_is_short, list_is_sorted, list_means};
+pub use laws::{edges_mean, list_is_short, list_is_sorted, list_keeps_cuts, list_means};
 pub use listing::{FromSet, from_set};

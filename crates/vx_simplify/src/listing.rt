@@ -120,10 +120,7 @@ fn pass_cut<S: Scheme>(
 }
 
 /// Writes the cut that waits, if there is one.
-fn end_walk<S: Scheme>(
-    list: &mut Constraints<S>,
-    walk: Walk<S::Version>,
-) -> Result<(), NoMemory>
+fn end_walk<S: Scheme>(list: &mut Constraints<S>, walk: Walk<S::Version>) -> Result<(), NoMemory>
     requires { ForSome walk.waiting (λ c. IsAboveLast S.order list.old c.version) }
     ensures { OnOk result (list.new ≡ list.old ++ listed S.order walk.inside (cut_list walk.waiting)) }
 {
