@@ -1,5 +1,7 @@
+pub mod Holds
 pub mod Laws
 pub mod Reading
 pub mod Spans
+pub mod Table
 pub mod Unique
 pub mod Words
