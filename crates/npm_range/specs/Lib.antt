@@ -3,5 +3,6 @@ pub mod Laws
 pub mod Reading
 pub mod Spans
 pub mod Table
+pub mod TableLaws
 pub mod Unique
 pub mod Words
