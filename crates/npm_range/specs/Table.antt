@@ -1,8 +1,11 @@
 -- The spans that constructs make in a domain. Numerals are of any size, and so are those that are raised by one.
-use Rattle.std.specs.Prelude.{◌==◌, ◌+◌, if◌then◌else◌, ℕ, List, [], ◌∷◌, Option, Some, None, true, false, length}
+use Rattle.std.specs.Prelude.{◌≡◌, ◌==◌, ◌+◌, if◌then◌else◌, ℕ, List, [], ◌∷◌, ◌++◌, Option, Some, None, true, false, length}
 use Rattle.std.specs.List.{AllByRecursion}
+use Rattle.vx_spec.specs.Firsts.{IsFirst}
 use Rattle.vx_scheme.specs.declared.domain.Domain.{Domain}
 use Rattle.vx_scheme.specs.declared.domain.Domain.TheVariants.{All, Releases}
+use Rattle.vx_scheme.specs.declared.range_fault.RangeFault.{RangeFault}
+use Rattle.vx_scheme.specs.declared.range_fault.RangeFault.TheVariants as fault_of
 use Rattle.vx_scheme.specs.declared.span.Cut.{Cut}
 use Rattle.vx_scheme.specs.declared.span.Span.{Span}
 use Rattle.vx_scheme.specs.Cuts.{cuts_of}
@@ -147,7 +150,34 @@ made_from domain mark (constructs ∷ all) = made_terms domain mark constructs �
 abbrev pub made_bounds : Domain → List (List Construct) → List (List (List (Span Fields)))
 made_bounds domain all = made_from domain 0 all
 
--- Each cut that the construct makes is within the limit of numerals. Where the numerals of the construct are within
--- it, this says that the numeral that is raised by one, if any, is below the limit.
+-- each cut of the spans is within the limit of numerals
+abbrev pub AreWithin : List (Span Fields) → Type 0
+AreWithin spans = AllByRecursion (λ (cut : Cut Fields). Fits cut.version) (cuts_of spans)
+
+-- Each cut that the construct makes is within the limit of numerals, the same in each domain. Where the numerals of the
+-- construct are within it, this says that the numeral that is raised by one, if any, is below the limit.
 abbrev pub IsRaisable : Construct → Type 0
-IsRaisable c = AllByRecursion (λ (cut : Cut Fields). Fits cut.version) (cuts_of (made_spans All 0 c))
+IsRaisable c = AreWithin (made_spans All 0 c)
+
+-- how a construct is refused: where it makes a cut past the limit, with the construct's place
+abbrev pub IsUnraisable : Construct → Option ℕ → Type 0
+IsUnraisable c None = IsRaisable c
+IsUnraisable c (Some at) = ¬ (IsRaisable c) × (at ≡ c.at)
+
+-- the constructs of all alternatives, from left to right
+abbrev pub constructs_of : List (List Construct) → List Construct
+constructs_of [] = []
+constructs_of (constructs ∷ all) = constructs ++ constructs_of all
+
+-- the first construct that makes a cut past the limit decides
+abbrev pub IsPastLimit : List Construct → RangeFault → Type 0
+IsPastLimit constructs fault = (at : ℕ) × (fault ≡ fault_of.Numeral at) × IsFirst IsUnraisable constructs (Some at)
+
+-- What is made of a partial by an operator's table: its spans, each cut within the limit, and the mark behind them.
+abbrev pub IsMade : (Domain → ℕ → Partial → List (Span Fields)) → Domain → ℕ → Partial → ℕ → List (Span Fields) → Type 0
+IsMade table domain mark partial next spans =
+    (spans ≡ table domain mark partial) × (next ≡ mark + length (cuts_of (table All 0 partial))) × AreWithin (table All 0 partial)
+
+-- The table makes a cut past the limit for a construct at this place.
+abbrev pub IsTooHigh : (Domain → ℕ → Partial → List (Span Fields)) → Partial → ℕ → RangeFault → Type 0
+IsTooHigh table partial at fault = (fault ≡ fault_of.Numeral at) × ¬ (AreWithin (table All 0 partial))
