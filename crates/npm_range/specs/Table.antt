@@ -64,19 +64,19 @@ equal_spans domain mark (Minor major minor) = between mark (release_of major min
 equal_spans domain mark (Major major) = between mark (release_of major 0 0) (end_of domain (major + 1) 0 0)
 equal_spans domain mark Any = every
 
--- `>`
-abbrev pub greater_spans : Domain → ℕ → Partial → List (Span Fields)
-greater_spans domain mark (Full version) = above mark version
-greater_spans domain mark (Minor major minor) = from mark (release_of major (minor + 1) 0)
-greater_spans domain mark (Major major) = from mark (release_of (major + 1) 0 0)
-greater_spans domain mark Any = []
+-- `>`, in each domain
+abbrev pub greater_spans : ℕ → Partial → List (Span Fields)
+greater_spans mark (Full version) = above mark version
+greater_spans mark (Minor major minor) = from mark (release_of major (minor + 1) 0)
+greater_spans mark (Major major) = from mark (release_of (major + 1) 0 0)
+greater_spans mark Any = []
 
--- `>=`
-abbrev pub greater_equal_spans : Domain → ℕ → Partial → List (Span Fields)
-greater_equal_spans domain mark (Full version) = from mark version
-greater_equal_spans domain mark (Minor major minor) = from mark (release_of major minor 0)
-greater_equal_spans domain mark (Major major) = from mark (release_of major 0 0)
-greater_equal_spans domain mark Any = every
+-- `>=`, in each domain
+abbrev pub greater_equal_spans : ℕ → Partial → List (Span Fields)
+greater_equal_spans mark (Full version) = from mark version
+greater_equal_spans mark (Minor major minor) = from mark (release_of major minor 0)
+greater_equal_spans mark (Major major) = from mark (release_of major 0 0)
+greater_equal_spans mark Any = every
 
 -- `<`
 abbrev pub less_spans : Domain → ℕ → Partial → List (Span Fields)
@@ -117,8 +117,8 @@ caret_spans domain mark Any = every
 
 abbrev pub spans_by : Operator → Domain → ℕ → Partial → List (Span Fields)
 spans_by Equal = equal_spans
-spans_by Greater = greater_spans
-spans_by GreaterEqual = greater_equal_spans
+spans_by Greater = λ _. greater_spans
+spans_by GreaterEqual = λ _. greater_equal_spans
 spans_by Less = less_spans
 spans_by LessEqual = less_equal_spans
 spans_by Tilde = tilde_spans

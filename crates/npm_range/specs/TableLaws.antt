@@ -192,13 +192,13 @@ module _ (domain : Domain) (mark : ℕ) where
   equal_says (Major major) v is = between_says mark (release_of major 0 0) (end_of domain (major + 1) 0 0) v _ (to_one domain (release_of major 0 0) v is)
   equal_says Any v is = refl
 
-  greater_says : (p : Partial) (v : Fields) → IsOf domain v → in_spans order_of (greater_spans domain mark p) v ≡ greater p v
+  greater_says : (p : Partial) (v : Fields) → IsOf domain v → in_spans order_of (greater_spans mark p) v ≡ greater p v
   greater_says (Full version) v is = above_says mark version v
   greater_says (Minor major minor) v is = from_says mark (release_of major (minor + 1) 0) v
   greater_says (Major major) v is = from_says mark (release_of (major + 1) 0 0) v
   greater_says Any v is = refl
 
-  greater_equal_says : (p : Partial) (v : Fields) → IsOf domain v → in_spans order_of (greater_equal_spans domain mark p) v ≡ greater_equal p v
+  greater_equal_says : (p : Partial) (v : Fields) → IsOf domain v → in_spans order_of (greater_equal_spans mark p) v ≡ greater_equal p v
   greater_equal_says (Full version) v is = from_says mark version v
   greater_equal_says (Minor major minor) v is = from_says mark (release_of major minor 0) v
   greater_equal_says (Major major) v is = from_says mark (release_of major 0 0) v

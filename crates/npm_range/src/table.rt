@@ -1,12 +1,11 @@
 ghost use Rattle.std.specs.Prelude.{◌≡◌, ◌≤◌, ◌+◌, ◌^◌, [], ◌∷◌, None, IfOk, OnOk, IfErr, length};
 ghost use Rattle.vx_spec.specs.Firsts.{IsFirst};
-ghost use Rattle.vx_scheme.specs.declared.domain.Domain.{Domain};
 ghost use Rattle.vx_scheme.specs.declared.domain.Domain.TheVariants.{All};
 ghost use Rattle.vx_scheme.specs.declared.range_fault.RangeFault.TheVariants.{Numeral};
 ghost use Rattle.vx_scheme.specs.Cuts.{cuts_of};
 ghost use Rattle.vx_scheme.specs.Native.{Refused};
 ghost use Rattle.npm_scheme.specs.Version.{Fits, release_of};
-ghost use Rattle.npm_range.specs.Table.{before, after, every, point, from, above, below, up_to, between, end_of, equal_spans, greater_spans, greater_equal_spans, less_spans, less_equal_spans, tilde_spans, caret_spans, made_spans, made_terms, made_bounds, cut_count, cut_count_of_all, IsMade, IsTooHigh, IsUnraisable, IsPastLimit, constructs_of};
+ghost use Rattle.npm_range.specs.Table.{before, after, every, point, from, above, below, up_to, between, end_of, equal_spans, greater_spans, greater_equal_spans, less_spans, less_equal_spans, tilde_spans, caret_spans, made_spans, made_terms, made_bounds, cut_count, cut_count_of_all, IsMade, IsTooHigh, IsRaisable, IsUnraisable, IsPastLimit, constructs_of};
 ghost use Rattle.npm_range.specs.declared.construct.Partial.TheVariants.{Full};
 
 use crate::construct::{Construct, Constructs, Operator, Partial};
@@ -243,8 +242,8 @@ fn greater_spans(
     partial: Partial,
     at: usize,
 ) -> Result<Spans<NpmVersion>, RangeFault>
-    ensures ok { IfOk result (λ spans. (domain : Domain) → IsMade greater_spans domain marks.old partial marks.new spans) }
-    ensures err { IfErr result (Refused (IsTooHigh greater_spans partial at)) }
+    ensures ok { IfOk result (IsMade (λ _. greater_spans) All marks.old partial marks.new) }
+    ensures err { IfErr result (Refused (IsTooHigh (λ _. greater_spans) partial at)) }
 {
     match partial {
         Partial::Full(version) => Ok(above(alloc, marks, version)?),
@@ -360,7 +359,7 @@ fn greater_equal_spans(
     marks: &mut u64,
     partial: Partial,
 ) -> Result<Spans<NpmVersion>, NoMemory>
-    ensures { IfOk result (λ spans. (domain : Domain) → IsMade greater_equal_spans domain marks.old partial marks.new spans) }
+    ensures { IfOk result (IsMade (λ _. greater_equal_spans) All marks.old partial marks.new) }
 {
     match partial {
         Partial::Full(version) => from(alloc, marks, version),
@@ -387,4 +386,70 @@ fn less_spans(
         Partial::Major(major) => below(alloc, marks, end_of(alloc, domain, major, 0, 0)?),
         Partial::Any => Ok(Spans::new(alloc)),
     }
+}
+
+/// The spans of a construct.
+fn made_spans(
+    alloc: Global,
+    domain: Domain,
+    marks: &mut u64,
+    construct: Construct,
+) -> Result<Spans<NpmVersion>, RangeFault>
+    ensures ok { IfOk result (λ spans. (spans ≡ made_spans domain marks.old construct) × (marks.new ≡ marks.old + cut_count construct)) }
+    ensures raisable { OnOk result (IsRaisable construct) }
+    ensures err { IfErr result (Refused (λ fault. (fault ≡ Numeral construct.at) × ¬ (IsRaisable construct))) }
+{
+    let Construct {
+        operator,
+        partial,
+        at,
+    } = construct;
+    match operator {
+        Operator::Equal => equal_spans(alloc, domain, marks, partial, at),
+        Operator::Less => Ok(less_spans(alloc, domain, marks, partial)?),
+        Operator::LessEqual => less_equal_spans(alloc, domain, marks, partial, at),
+        Operator::Greater => greater_spans(alloc, marks, partial, at),
+        Operator::GreaterEqual => Ok(greater_equal_spans(alloc, marks, partial)?),
+        Operator::Tilde => tilde_spans(alloc, domain, marks, partial, at),
+        Operator::Caret => caret_spans(alloc, domain, marks, partial, at),
+    }
+}
+
+/// The terms of an alternative: one for each construct.
+fn made_terms(
+    alloc: Global,
+    domain: Domain,
+    marks: &mut u64,
+    constructs: List<Construct>,
+) -> Result<Alternative<NpmVersion>, RangeFault>
+    ensures ok { IfOk result (λ terms. (terms ≡ made_terms domain marks.old constructs) × (marks.new ≡ marks.old + cut_count_of_all constructs)) }
+    ensures raisable { OnOk result (IsFirst IsUnraisable constructs None) }
+    ensures err { IfErr result (Refused (IsPastLimit constructs)) }
+{
+    let mut terms = Alternative::new(alloc);
+    for construct in constructs.into_vec() {
+        let spans = made_spans(alloc, domain, marks, construct)?;
+        terms.push(spans)?;
+    }
+    Ok(terms)
+}
+
+/// The spans of the constructs of all alternatives: each construct is a term, and the marks of the cuts run from 0. A
+/// numeral that would be raised past the limit is refused, with the place of its construct; the first such decides.
+pub(crate) fn made_bounds(
+    alloc: Global,
+    all: Constructs,
+    domain: Domain,
+) -> Result<Bounds<NpmVersion>, RangeFault>
+    ensures ok { IfOk result (λ bounds. bounds ≡ made_bounds domain all) }
+    ensures raisable { OnOk result (IsFirst IsUnraisable (constructs_of all) None) }
+    ensures err { IfErr result (Refused (IsPastLimit (constructs_of all))) }
+{
+    let mut marks = 0;
+    let mut bounds = Bounds::new(alloc);
+    for constructs in all.into_vec() {
+        let terms = made_terms(alloc, domain, &mut marks, constructs)?;
+        bounds.push(terms)?;
+    }
+    Ok(bounds)
 }
