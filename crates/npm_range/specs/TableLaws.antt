@@ -1,6 +1,6 @@
 -- The spans of a construct hold exactly the versions of the domain of which the construct holds.
 use Rattle.std.proofs.Common.{◌≡◌, ◌==◌, ◌&&◌, ◌||◌, ◌+◌, not, nat_lt, cond, ℕ, Bool, true, false, List, [], ◌∷◌, refl, sym, ap, ◌∙◌, arith, inl, inr, eqb-true, eq-eqb, le-ltb}
-use Rattle.std.specs.Prelude.{⊤}
+use Rattle.std.specs.Prelude.{⊤, Option, Some, None}
 use Rattle.std.specs.List.{list_any, list_all}
 use Rattle.std.specs.Ordering.{ordering_reverse, is_eq, is_lt, is_le, is_gt, is_ge}
 use Rattle.std.specs.declared.cmp.Ordering.{Ordering}
@@ -8,8 +8,12 @@ use Rattle.std.specs.declared.cmp.Ordering.TheVariants as ordering
 use Rattle.std.proofs.Math.Bool.{and-false, or-false, and-true}
 use Rattle.std.proofs.lemmas.Bool.{cases_Bool}
 use Rattle.std.proofs.lemmas.Bool.Decides.{nat_tests}
+use Rattle.vx_spec.specs.Firsts.{IsFirst}
+use Rattle.vx_spec.proofs.FirstLaws.{one_first}
 use Rattle.vx_scheme.specs.declared.domain.Domain.{Domain}
 use Rattle.vx_scheme.specs.declared.domain.Domain.TheVariants.{All, Releases}
+use Rattle.vx_scheme.specs.declared.range_fault.RangeFault.{RangeFault}
+use Rattle.vx_scheme.specs.declared.range_fault.RangeFault.TheVariants as fault_of
 use Rattle.vx_scheme.specs.declared.span.Span.{Span}
 use Rattle.vx_scheme.specs.Cuts.{stands_below, spans_at, in_spans, in_bounds}
 use Rattle.vx_scheme.specs.Native.{by_domain}
@@ -22,7 +26,7 @@ use Rattle.npm_range.specs.declared.construct.Partial.{Partial}
 use Rattle.npm_range.specs.declared.construct.Partial.TheVariants.{Any, Major, Minor, Full}
 use Rattle.npm_range.specs.declared.construct.Construct.{Construct}
 use Rattle.npm_range.specs.Holds.{numbers_of, are_same, are_below, up_to_first_not_0, at_least, equal, greater, greater_equal, less, less_equal, tilde, caret, holds_by, holds, holds_all}
-use Rattle.npm_range.specs.Table.{point, from, above, below, up_to, between, end_of, equal_spans, greater_spans, greater_equal_spans, less_spans, less_equal_spans, tilde_spans, caret_end_of_two, caret_end_of_three, caret_spans, spans_by, made_spans, cut_count, cut_count_of_all, made_terms, made_from, made_bounds}
+use Rattle.npm_range.specs.Table.{point, from, above, below, up_to, between, end_of, equal_spans, greater_spans, greater_equal_spans, less_spans, less_equal_spans, tilde_spans, caret_end_of_two, caret_end_of_three, caret_spans, spans_by, made_spans, cut_count, cut_count_of_all, made_terms, made_from, made_bounds, IsUnraisable, IsPastLimit}
 
 -- the version is of the domain
 abbrev pub IsOf : Domain → Fields → Type 0
@@ -270,3 +274,20 @@ from_mark_says domain mark (constructs ∷ all) v is = λ i. terms_say domain ma
 -- The spans of all constructs hold the versions of the domain of which, in some alternative, all constructs hold.
 pub bounds_say : (domain : Domain) (all : List (List Construct)) (v : Fields) → IsVersion v → IsOf domain v → in_bounds order_of (made_bounds domain all) v ≡ holds_all all v
 bounds_say domain all v version is = from_mark_says domain 0 all v is
+
+-- A construct is refused in one way,
+pub one_unraisable : (c : Construct) (r q : Option ℕ) → IsUnraisable c r → IsUnraisable c q → r ≡ q
+one_unraisable c None None x y = refl
+one_unraisable c None (Some at) x y = absurd (y.0 x)
+one_unraisable c (Some at) None x y = absurd (x.0 y)
+one_unraisable c (Some at) (Some other) x y = ap Some (x.1 ∙ sym y.1)
+
+-- so constructs are past the limit in one way,
+pub one_past_limit : (constructs : List Construct) (a b : RangeFault) → IsPastLimit constructs a → IsPastLimit constructs b → a ≡ b
+one_past_limit constructs a b x y =
+    let same = one_first IsUnraisable one_unraisable constructs (Some x.0) (Some y.0) x.2 y.2 in
+    x.1 ∙ (ap fault_of.Numeral (cc same) ∙ sym y.1)
+
+-- and not at all where each is raisable.
+pub none_past_limit : (constructs : List Construct) (fault : RangeFault) → IsFirst IsUnraisable constructs None → ¬ (IsPastLimit constructs fault)
+none_past_limit constructs fault none past = cc (one_first IsUnraisable one_unraisable constructs None (Some past.0) none past.2)

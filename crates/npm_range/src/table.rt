@@ -38,6 +38,7 @@ fn raise(number: u128, at: usize) -> Result<u128, RangeFault>
     }
 }
 
+/// `M.m.p`
 fn release(alloc: Global, major: u128, minor: u128, patch: u128) -> NpmVersion
     ensures { result ≡ release_of major minor patch }
 {
@@ -66,11 +67,13 @@ fn end_of(
     }
 }
 
+/// The cut directly before or after a version.
 fn cut(marks: &mut u64, version: NpmVersion, after: bool) -> Result<Cut<NpmVersion>, NoMemory>
     ensures cut { IfOk result (λ cut. cut ≡ record { version = version; after = after; mark = marks.old }) }
     ensures marks { OnOk result (marks.new ≡ marks.old + 1) }
     ensures within { Fits version }
 {
+    // A field that is read shows that the version is within the limit.
     let _major = version.major;
     let mark = next_mark(marks)?;
     Ok(Cut {
@@ -80,8 +83,8 @@ fn cut(marks: &mut u64, version: NpmVersion, after: bool) -> Result<Cut<NpmVersi
     })
 }
 
-/// The span between two cuts.
-fn one(
+/// The one span between two cuts.
+fn single(
     alloc: Global,
     lower: Option<Cut<NpmVersion>>,
     upper: Option<Cut<NpmVersion>>,
@@ -93,10 +96,11 @@ fn one(
     Ok(spans)
 }
 
+/// Every version.
 fn every(alloc: Global) -> Result<Spans<NpmVersion>, NoMemory>
     ensures { IfOk result (λ spans. spans ≡ every) }
 {
-    one(alloc, None, None)
+    single(alloc, None, None)
 }
 
 /// `[V, V]`
@@ -107,7 +111,7 @@ fn point(alloc: Global, marks: &mut u64, version: NpmVersion) -> Result<Spans<Np
     let copied = Npm::copy(alloc, &version)?;
     let lower = cut(marks, version, false)?;
     let upper = cut(marks, copied, true)?;
-    one(alloc, Some(lower), Some(upper))
+    single(alloc, Some(lower), Some(upper))
 }
 
 /// `[V, -)`
@@ -116,7 +120,7 @@ fn from(alloc: Global, marks: &mut u64, version: NpmVersion) -> Result<Spans<Npm
     ensures within { Fits version }
 {
     let lower = cut(marks, version, false)?;
-    one(alloc, Some(lower), None)
+    single(alloc, Some(lower), None)
 }
 
 /// `(V, -)`
@@ -125,7 +129,7 @@ fn above(alloc: Global, marks: &mut u64, version: NpmVersion) -> Result<Spans<Np
     ensures within { Fits version }
 {
     let lower = cut(marks, version, true)?;
-    one(alloc, Some(lower), None)
+    single(alloc, Some(lower), None)
 }
 
 /// `(-, V)`
@@ -134,7 +138,7 @@ fn below(alloc: Global, marks: &mut u64, version: NpmVersion) -> Result<Spans<Np
     ensures within { Fits version }
 {
     let upper = cut(marks, version, false)?;
-    one(alloc, None, Some(upper))
+    single(alloc, None, Some(upper))
 }
 
 /// `(-, V]`
@@ -143,7 +147,7 @@ fn up_to(alloc: Global, marks: &mut u64, version: NpmVersion) -> Result<Spans<Np
     ensures within { Fits version }
 {
     let upper = cut(marks, version, true)?;
-    one(alloc, None, Some(upper))
+    single(alloc, None, Some(upper))
 }
 
 /// `[V, W)`
@@ -158,7 +162,7 @@ fn between(
 {
     let lower = cut(marks, version, false)?;
     let upper = cut(marks, end, false)?;
-    one(alloc, Some(lower), Some(upper))
+    single(alloc, Some(lower), Some(upper))
 }
 
 /// From a version to the end of those with its first number.
@@ -248,12 +252,12 @@ fn greater_spans(
     match partial {
         Partial::Full(version) => Ok(above(alloc, marks, version)?),
         Partial::Minor(major, minor) => {
-            let minor = raise(minor, at)?;
-            Ok(from(alloc, marks, release(alloc, major, minor, 0))?)
+            let raised = raise(minor, at)?;
+            Ok(from(alloc, marks, release(alloc, major, raised, 0))?)
         }
         Partial::Major(major) => {
-            let major = raise(major, at)?;
-            Ok(from(alloc, marks, release(alloc, major, 0, 0))?)
+            let raised = raise(major, at)?;
+            Ok(from(alloc, marks, release(alloc, raised, 0, 0))?)
         }
         Partial::Any => Ok(Spans::new(alloc)),
     }
@@ -273,12 +277,14 @@ fn less_equal_spans(
     match partial {
         Partial::Full(version) => Ok(up_to(alloc, marks, version)?),
         Partial::Minor(major, minor) => {
-            let minor = raise(minor, at)?;
-            Ok(below(alloc, marks, end_of(alloc, domain, major, minor, 0)?)?)
+            let raised = raise(minor, at)?;
+            let end = end_of(alloc, domain, major, raised, 0)?;
+            Ok(below(alloc, marks, end)?)
         }
         Partial::Major(major) => {
-            let major = raise(major, at)?;
-            Ok(below(alloc, marks, end_of(alloc, domain, major, 0, 0)?)?)
+            let raised = raise(major, at)?;
+            let end = end_of(alloc, domain, raised, 0, 0)?;
+            Ok(below(alloc, marks, end)?)
         }
         Partial::Any => Ok(every(alloc)?),
     }
@@ -378,14 +384,13 @@ fn less_spans(
 ) -> Result<Spans<NpmVersion>, NoMemory>
     ensures { IfOk result (IsMade less_spans domain marks.old partial marks.new) }
 {
-    match partial {
-        Partial::Full(version) => below(alloc, marks, version),
-        Partial::Minor(major, minor) => {
-            below(alloc, marks, end_of(alloc, domain, major, minor, 0)?)
-        }
-        Partial::Major(major) => below(alloc, marks, end_of(alloc, domain, major, 0, 0)?),
-        Partial::Any => Ok(Spans::new(alloc)),
-    }
+    let end = match partial {
+        Partial::Full(version) => version,
+        Partial::Minor(major, minor) => end_of(alloc, domain, major, minor, 0)?,
+        Partial::Major(major) => end_of(alloc, domain, major, 0, 0)?,
+        Partial::Any => return Ok(Spans::new(alloc)),
+    };
+    below(alloc, marks, end)
 }
 
 /// The spans of a construct.
