@@ -5,6 +5,7 @@ mod construct;
 mod range;
 mod reading;
 mod spans;
+mod table;
 
 pub use construct::{Construct, Constructs, Operator, Partial};
 pub use range::NpmRange;
