@@ -1,5 +1,12 @@
+pub mod Alternatives
+pub mod Forms
 pub mod Laws
+pub mod OneCut
+pub mod Partials
+pub mod Pieces
+pub mod Reader
 pub mod Reading
+pub mod Refusals
 pub mod Spans
 pub mod Unique
 pub mod Words

@@ -2,9 +2,14 @@
 #![tactic(auto)]
 
 mod construct;
+mod partials;
+mod pieces;
 mod range;
+mod reader;
 mod reading;
+mod refusals;
 mod spans;
+mod values;
 
 pub use construct::{Construct, Constructs, Operator, Partial};
 pub use range::NpmRange;
