@@ -2,6 +2,8 @@ pub mod Alternatives
 pub mod Forms
 pub mod Laws
 pub mod OneCut
+pub mod OnePartial
+pub mod OneReading
 pub mod Partials
 pub mod Pieces
 pub mod Reader
