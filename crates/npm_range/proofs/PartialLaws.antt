@@ -6,7 +6,8 @@ use Rattle.std.specs.Str.{IsUtf8}
 use Rattle.std.proofs.lemmas.Bool.Decides.{nat_tests}
 use Rattle.vx_spec.proofs.TextLaws.{utf8_by_each}
 use Rattle.npm_scheme.specs.Version.{without_build}
-use Rattle.npm_scheme.specs.Spelling.{version_of}
+use Rattle.npm_scheme.specs.Spelling.{Parts, version_of}
+use Rattle.npm_scheme.specs.Written.{IsWritten}
 use Rattle.npm_range.specs.Pieces.{WrittenPiece}
 use Rattle.npm_range.specs.Partials.{is_short, values, partial_of, HasOperator, IsPartial, partial_text, ReadsAs, IsConstruct}
 use Rattle.npm_range.specs.Forms.{HasForm}
@@ -46,3 +47,6 @@ construct_form piece o is = (
 
 pub form_of : (piece : WrittenPiece) → IsConstruct piece → HasForm (partial_text piece)
 form_of piece c = value_has (partial_text piece) c.0.partial c.1.partial
+
+pub whole_is : (text : List ℕ) (p : Parts) → IsWritten text p → (q : Partial) → q ≡ Full (without_build (version_of p)) → IsPartial text q
+whole_is text p w q e = inr (record { version = version_of p; spelled = record { parts = p; joined = w.joined; form = w.form; values = refl }; is = e })

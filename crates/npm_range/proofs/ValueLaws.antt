@@ -11,7 +11,7 @@ use Rattle.npm_scheme.specs.Written.{IsWritten}
 use Rattle.npm_scheme.specs.Unique.{one_version}
 use Rattle.npm_range.specs.Pieces.{WrittenPiece}
 use Rattle.npm_range.specs.Partials.{is_any, is_number, numbers, is_short, before_any, values, partial_text}
-use Rattle.npm_range.specs.Refusals.{is_past, first_past, PastNumeral, IsPastNumeral}
+use Rattle.npm_range.specs.Refusals.{is_past, first_past, PastNumeral, flat}
 use Rattle.npm_range.specs.Forms.{NonePast, AreReadable, AreReadableBehind, values_behind}
 use Rattle.npm_range.specs.OnePartial.{split_none, split_some}
 
@@ -110,3 +110,13 @@ none_at Refuses f (x ∷ xs) zero d less (inl h) = h.0
 none_at Refuses f (x ∷ xs) zero d less (inr h) = absurd (cc (h.2))
 none_at Refuses f (x ∷ xs) (suc i) d less (inl h) = none_at Refuses f xs i d (omega (arith, less)) h.1
 none_at Refuses f (x ∷ xs) (suc i) d less (inr h) = absurd (cc (h.2))
+
+first_front : (Refuses : WrittenPiece → Option ℕ → Type 0) (xs ys : List WrittenPiece) → IsFirst Refuses (xs ++ ys) None → IsFirst Refuses xs None × IsFirst Refuses ys None
+first_front Refuses [] ys h = (refl, h)
+first_front Refuses (x ∷ xs) ys (inl h) = let r = first_front Refuses xs ys h.1 in (inl (h.0, r.0), r.1)
+first_front Refuses (x ∷ xs) ys (inr h) = absurd (cc (h.2))
+
+pub row_none_at : {X : Type 0} (Refuses : WrittenPiece → Option ℕ → Type 0) (f : X → List WrittenPiece) (xs : List X) (i : ℕ) (d : X) → i < length xs → IsFirst Refuses (flat (map f xs)) None → IsFirst Refuses (f (get_or xs i d)) None
+row_none_at Refuses f [] i d less h = absurd (omega (arith, less))
+row_none_at Refuses f (x ∷ xs) zero d less h = (first_front Refuses (f x) (flat (map f xs)) h).0
+row_none_at Refuses f (x ∷ xs) (suc i) d less h = row_none_at Refuses f xs i d (omega (arith, less)) (first_front Refuses (f x) (flat (map f xs)) h).1
