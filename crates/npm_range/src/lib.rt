@@ -1,12 +1,14 @@
-//! npm's version ranges.
+//! npm's version ranges, after the README of node-semver.
 #![tactic(auto)]
 
 mod construct;
+mod partials;
+mod pieces;
 mod range;
 mod reading;
+mod refusals;
 mod spans;
-mod table;
+mod values;
 
 pub use construct::{Construct, Constructs, Operator, Partial};
-pub use range::NpmRange;
-pub use reading::{Pair, read_pair};
+pub use range::{NpmRange, construct_is_its_spans};

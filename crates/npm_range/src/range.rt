@@ -1,3 +1,12 @@
+ghost use Rattle.std.specs.Prelude.{◌≡◌, ℕ};
+ghost use Rattle.vx_scheme.specs.declared.domain.Domain.TheVariants as domain_of;
+ghost use Rattle.vx_scheme.specs.Cuts.{in_spans};
+ghost use Rattle.npm_scheme.specs.Version.{Fields, IsVersion, IsRelease};
+ghost use Rattle.npm_scheme.specs.Order.{order_of};
+ghost use Rattle.npm_range.specs.declared.construct.Construct.{Construct};
+ghost use Rattle.npm_range.specs.Holds.{holds};
+ghost use Rattle.npm_range.specs.Spans.{made_spans};
+
 use crate::{reading, spans};
 use npm_scheme::{Npm, NpmVersion};
 use std::alloc::Global;
@@ -61,8 +70,7 @@ impl Scheme for NpmRange {
 impl Native for NpmRange {
     ghost use Rattle.std.specs.Prelude.{⊤};
     ghost use Rattle.vx_scheme.specs.declared.domain.Domain.TheVariants as domain_of;
-    ghost use Rattle.npm_range.specs.Reading.{IsRange, In};
-    ghost use Rattle.npm_range.specs.Spans.{Makes, Refuses};
+    ghost use Rattle.npm_range.specs.Range.{IsRange, In, Makes, Refuses};
     ghost use Rattle.npm_range.specs.Laws.{npm_ranges};
 
     ghost Offers = { λ _. ⊤ };
@@ -87,16 +95,24 @@ impl Native for NpmRange {
         Domain::All
     }
 
-    fn bounds(alloc: Global, text: &str, domain: Domain) -> Result<Bounds<NpmVersion>, RangeFault> {
-        if domain.is_releases() {
-            return Err(RangeFault::NotBuilt);
-        }
-        match reading::read_pair(alloc, text.as_bytes()) {
-            Ok(pair) => {
-                let bounds = spans::bounds_of(alloc, pair)?;
-                Ok(bounds)
-            }
+    fn bounds(
+        alloc: Global,
+        text: &str,
+        domain: Domain,
+    ) -> Result<Bounds<NpmVersion>, RangeFault> {
+        let all = match read(alloc, text) {
+            Ok(all) => all,
+            Err(fault) => return Err(fault),
+        };
+        match made_bounds(alloc, all, domain) {
+            Ok(bounds) => Ok(bounds),
             Err(fault) => Err(fault),
         }
     }
 }
+
+/// A construct holds of a version of a domain exactly where one of the spans that it makes there holds it.
+pub fn construct_is_its_spans()
+    ensures all { (c : Construct) (mark : ℕ) (v : Fields) → IsVersion v → in_spans order_of (made_spans domain_of.All mark c) v ≡ holds c v }
+    ensures releases { (c : Construct) (mark : ℕ) (v : Fields) → IsVersion v → IsRelease v → in_spans order_of (made_spans domain_of.Releases mark c) v ≡ holds c v }
+{}

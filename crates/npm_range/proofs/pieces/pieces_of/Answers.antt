@@ -1,0 +1,6 @@
+use Rattle.std.proofs.Common.{◌≡◌, ◌++◌, append-nil, map, List, []}
+use Rattle.npm_range.specs.Pieces.{ArePieces, seen}
+use Rattle.npm_range.proofs.pieces.pieces_of.Goals as goal
+
+pub returns : goal.returns
+returns c = rw append-nil at (c.loop-piece.invariant.1 [] c.in_default.ensures.piece)

@@ -1,0 +1,10 @@
+use Rattle.std.proofs.Common.{◌≡◌, List, ℕ, Option, map, drop}
+use Rattle.npm_range.specs.Pieces.{seen}
+use Rattle.vx_spec.specs.Firsts.{IsFirst}
+use Rattle.npm_range.specs.Refusals.{IsNoConstruct, flat}
+use Rattle.npm_range.proofs.refusals.first_syntax.Given as goal
+
+abbrev pub invariant-loop-pieces : goal.invariant-loop-pieces
+invariant-loop-pieces l =
+    (r : Option ℕ) → IsFirst IsNoConstruct (flat (map (λ a. map seen a.items) (drop l.pieces-index l.all))) r
+    → IsFirst IsNoConstruct (flat (map (λ a. map seen a.items) l.all)) r

@@ -1,0 +1,240 @@
+-- A piece is one construct, and the first of its numerals past the limit has one place.
+use Rattle.std.proofs.Common.{◌≡◌, ◌≢◌, ◌<◌, ◌≤◌, ◌+◌, ◌^◌, ◌&&◌, ◌||◌, not, ℕ, suc, List, [], ◌∷◌, ◌++◌, length, map, eqb, ltb, Bool, true, false, refl, sym, ap, ◌∙◌, inl, inr, arith, subst, append-nil, if◌then◌else◌, Option, Some, None}
+use Rattle.std.specs.List.{list_all, slice_split, AllByRecursion}
+use Rattle.std.specs.Char.{is_ascii_digit}
+use Rattle.std.proofs.lemmas.List.{length-map}
+use Rattle.std.proofs.lemmas.List.Splits.{slice_split_none, slice_split_at, join_with_byte-slice_split}
+use Rattle.std.proofs.lemmas.List.Elements.{All-from_recursion}
+use Rattle.std.proofs.lemmas.Bool.{cases_Bool, and_parts, ne_eqb, lt-ltb, ltb-true}
+use Rattle.std.proofs.lemmas.Bool.Decides.{nat_tests}
+use Rattle.vx_spec.specs.Marks.{IsCut, Lacks}
+use Rattle.vx_spec.specs.Numerals.{is_numeral, value}
+use Rattle.vx_spec.proofs.TextLaws.{each_by_test, each_append, each_joined, each_part}
+use Rattle.npm_scheme.specs.Version.{Fields, Fits, IdentFits, without_build}
+use Rattle.npm_scheme.specs.Spelling.{Parts, HasForm, Spells, is_plain_numeral, has_leading_zero, core, tail, whole, identifier_of, version_of}
+use Rattle.npm_scheme.specs.Written.{IsWritten}
+use Rattle.npm_scheme.specs.Unique.{one_parts, one_reading}
+use Rattle.npm_range.specs.Pieces.{WrittenPiece}
+use Rattle.npm_range.specs.Partials.{IsOperator, HasOperator, is_any, is_number, numbers, is_short, before_any, values, partial_of, IsPartial, partial_text, ReadsAs}
+use Rattle.npm_range.specs.Refusals.{IsNoConstruct, is_past, first_past, PastNumeral, IsPastNumeral}
+use Rattle.npm_range.specs.Reading.{PartialFits, ReadsWithin}
+use Rattle.npm_range.specs.declared.pieces.Kind.{Kind}
+use Rattle.npm_range.specs.declared.pieces.Kind.TheVariants.{Plain, Low, High}
+use Rattle.npm_range.specs.declared.construct.Construct.{Construct}
+use Rattle.npm_range.specs.declared.construct.Operator.{Operator}
+use Rattle.npm_range.specs.declared.construct.Operator.TheVariants as operator_of
+use Rattle.npm_range.specs.declared.construct.Partial.{Partial}
+use Rattle.npm_range.specs.declared.construct.Partial.TheVariants.{Any, Major, Minor, Full}
+
+-- the operator that signs write, where they write one
+abbrev written_by : List ℕ → Operator
+written_by [] = operator_of.Equal
+written_by (b ∷ []) = if eqb b 60 then operator_of.Less else (if eqb b 62 then operator_of.Greater else (if eqb b 126 then operator_of.Tilde else (if eqb b 94 then operator_of.Caret else operator_of.Equal)))
+written_by (b ∷ c ∷ signs) = if eqb b 60 then operator_of.LessEqual else (if eqb b 62 then operator_of.GreaterEqual else operator_of.Tilde)
+
+operator_found : (signs : List ℕ) (o : Operator) → IsOperator signs o → written_by signs ≡ o
+operator_found signs operator_of.Equal (inl e) = ap written_by e
+operator_found signs operator_of.Equal (inr e) = ap written_by e
+operator_found signs operator_of.Less e = ap written_by e
+operator_found signs operator_of.LessEqual e = ap written_by e
+operator_found signs operator_of.Greater e = ap written_by e
+operator_found signs operator_of.GreaterEqual e = ap written_by e
+operator_found signs operator_of.Tilde (inl e) = ap written_by e
+operator_found signs operator_of.Tilde (inr e) = ap written_by e
+operator_found signs operator_of.Caret e = ap written_by e
+
+one_operator : (kind : Kind) (signs : List ℕ) (o u : Operator) → HasOperator kind signs o → HasOperator kind signs u → o ≡ u
+one_operator Plain signs o u p q = sym (operator_found signs o p) ∙ operator_found signs u q
+one_operator Low signs o u p q = p ∙ sym q
+one_operator High signs o u p q = p ∙ sym q
+
+-- cutting at '.' step by step
+not_dot : (text : List ℕ) → Lacks 46 text → AllByRecursion (λ b. eqb b 46 ≡ false) text
+not_dot [] h = tt
+not_dot (b ∷ text) h = (ne_eqb b 46 h.0, not_dot text h.1)
+
+pub split_none : (text front : List ℕ) → IsCut 46 text front None → numbers text ≡ front ∷ []
+split_none text front c =
+    ap numbers (c.joined ∙ append-nil front) ∙ slice_split_none (λ b. eqb b 46) front (All-from_recursion (λ b. eqb b 46 ≡ false) front (not_dot front c.first))
+
+pub split_some : (text front behind : List ℕ) → IsCut 46 text front (Some behind) → numbers text ≡ front ∷ numbers behind
+split_some text front behind c =
+    ap numbers c.joined ∙ slice_split_at (λ b. eqb b 46) front 46 behind (All-from_recursion (λ b. eqb b 46 ≡ false) front (not_dot front c.first)) refl
+
+pub digits : (x : List ℕ) → is_plain_numeral x ≡ true → list_all is_ascii_digit x ≡ true
+digits x is =
+    let a = and_parts (is_numeral x) (not (has_leading_zero x)) is in
+    (and_parts (ltb 0 (length x)) (list_all is_ascii_digit x) a.0).1
+
+abbrev pub any_byte : ℕ → Bool
+any_byte b = (eqb b 120 || eqb b 88) || eqb b 42
+
+number_all : (P : ℕ → Type 0) → ((b : ℕ) → is_ascii_digit b ≡ true → P b) → ((b : ℕ) → any_byte b ≡ true → P b) → (x : List ℕ) → is_number x ≡ true → AllByRecursion P x
+number_all P digit any [] is = tt
+number_all P digit any (b ∷ []) is = elim (cases_Bool (any_byte b)) [
+  | inl sign ↦ (any b sign, tt)
+  | inr other ↦ each_by_test P is_ascii_digit (b ∷ []) digit (digits (b ∷ []) (rw other at is))
+]
+number_all P digit any (b ∷ c ∷ x) is = each_by_test P is_ascii_digit (b ∷ c ∷ x) digit (digits (b ∷ c ∷ x) is)
+
+-- each byte of one to three numbers is '.', a digit or a sign for any number
+pub short_all : (P : ℕ → Type 0) (text : List ℕ) → P 46 → ((b : ℕ) → is_ascii_digit b ≡ true → P b) → ((b : ℕ) → any_byte b ≡ true → P b) → is_short text ≡ true → AllByRecursion P text
+short_all P text dot digit any is =
+    let all : list_all is_number (numbers text) ≡ true = (and_parts (list_all is_number (numbers text)) (ltb (length (numbers text)) 4) is).0 in
+    subst (AllByRecursion P) (join_with_byte-slice_split 46 text) (each_joined P 46 dot (numbers text) (each_part P is_number (numbers text) (number_all P digit any) all))
+
+right : (P : ℕ → Type 0) (xs ys : List ℕ) → AllByRecursion P (xs ++ ys) → AllByRecursion P ys
+right P [] ys p = p
+right P (x ∷ xs) ys p = right P xs ys p.1
+
+left : (P : ℕ → Type 0) (xs ys : List ℕ) → AllByRecursion P (xs ++ ys) → AllByRecursion P xs
+left P [] ys p = tt
+left P (x ∷ xs) ys p = (p.0, left P xs ys p.1)
+
+digit_is : (c b : ℕ) → is_ascii_digit c ≡ false → is_ascii_digit b ≡ true → b ≢ c
+digit_is c b other is = λ e. absurd (cc (e, other, is))
+
+any_is : (c b : ℕ) → any_byte c ≡ false → any_byte b ≡ true → b ≢ c
+any_is c b other is = λ e. absurd (cc (e, other, is))
+
+no_tail : (mark : ℕ) (xs : List (List ℕ)) → Lacks mark (tail mark xs) → xs ≡ []
+no_tail mark [] h = refl
+no_tail mark (x ∷ xs) h = absurd (h.0 refl)
+
+not_any : (x : List ℕ) → is_plain_numeral x ≡ true → is_any x ≡ false
+not_any [] is = refl
+not_any (b ∷ []) is = let d = (and_parts (is_ascii_digit b) true (digits (b ∷ []) is)).0 in grind (arith, nat_tests)
+not_any (b ∷ c ∷ x) is = refl
+
+numeral_lacks : (x : List ℕ) → is_plain_numeral x ≡ true → Lacks 46 x
+numeral_lacks x is = each_by_test (λ b. b ≢ 46) is_ascii_digit x (λ b d. digit_is 46 b refl d) (digits x is)
+
+core_numbers : (text a b c : List ℕ) → text ≡ core a b c → is_plain_numeral a ≡ true → is_plain_numeral b ≡ true → is_plain_numeral c ≡ true → numbers text ≡ a ∷ b ∷ c ∷ []
+core_numbers text a b c e f g h =
+    let first = split_some text a (b ++ 46 ∷ c) (record { joined = e; first = numeral_lacks a f }) in
+    let second = split_some (b ++ 46 ∷ c) b c (record { joined = refl; first = numeral_lacks b g }) in
+    let third = split_none c c (record { joined = sym (append-nil c); first = numeral_lacks c h }) in
+    first ∙ ap (λ (r : List (List ℕ)). a ∷ r) (second ∙ ap (λ (r : List (List ℕ)). b ∷ r) third)
+
+-- three numerals are numbers and a version, of one value
+short_whole : (text : List ℕ) (p : Parts) → is_short text ≡ true → IsWritten text p → partial_of (values text) ≡ Full (without_build (version_of p))
+short_whole text p is w =
+    let dash : Lacks 45 (whole p) = subst (Lacks 45) w.joined (short_all (λ b. b ≢ 45) text (λ e. cc e) (λ b d. digit_is 45 b refl d) (λ b d. any_is 45 b refl d) is) in
+    let plus : Lacks 43 (whole p) = subst (Lacks 43) w.joined (short_all (λ b. b ≢ 43) text (λ e. cc e) (λ b d. digit_is 43 b refl d) (λ b d. any_is 43 b refl d) is) in
+    let front = core p.major p.minor p.patch in
+    let pre : p.pre ≡ [] = no_tail 45 p.pre (right (λ b. b ≢ 45) front (tail 45 p.pre) (left (λ b. b ≢ 45) (front ++ tail 45 p.pre) (tail 43 p.build) dash)) in
+    let build : p.build ≡ [] = no_tail 43 p.build (right (λ b. b ≢ 43) (front ++ tail 45 p.pre) (tail 43 p.build) plus) in
+    let e : text ≡ front = w.joined ∙ ap (λ (t : List (List ℕ)). front ++ tail 45 p.pre ++ tail 43 t) build ∙ append-nil (front ++ tail 45 p.pre)
+        ∙ ap (λ (t : List (List ℕ)). front ++ tail 45 t) pre ∙ append-nil front in
+    let n = core_numbers text p.major p.minor p.patch e w.form.major w.form.minor w.form.patch in
+    rw (n, not_any p.major w.form.major, not_any p.minor w.form.minor, not_any p.patch w.form.patch, pre) refl
+
+abbrev full : Fields → Partial
+full v = Full (without_build v)
+
+pub written : (text : List ℕ) (v : Fields) (s : Spells text v) → IsWritten text s.parts
+written text v s = record { joined = s.joined; form = s.form }
+
+-- A partial stands for one value.
+pub one_partial : (text : List ℕ) (p q : Partial) → IsPartial text p → IsPartial text q → p ≡ q
+one_partial text p q (inl x) (inl y) = x.1 ∙ sym y.1
+one_partial text p q (inl x) (inr y) = x.1 ∙ short_whole text y.spelled.parts x.0 (written text y.version y.spelled) ∙ ap full (sym y.spelled.values) ∙ sym y.is
+one_partial text p q (inr x) (inl y) = sym (y.1 ∙ short_whole text x.spelled.parts y.0 (written text x.version x.spelled) ∙ ap full (sym x.spelled.values) ∙ sym x.is)
+one_partial text p q (inr x) (inr y) = x.is ∙ ap full (one_reading text x.version y.version x.spelled y.spelled) ∙ sym y.is
+
+-- A piece is one construct.
+pub one_construct : (piece : WrittenPiece) (c d : Construct) → ReadsAs piece c → ReadsAs piece d → c ≡ d
+one_construct piece c d p q =
+    let operators = one_operator piece.kind piece.signs c.operator d.operator p.operator q.operator in
+    let partials = one_partial (partial_text piece) c.partial d.partial p.partial q.partial in
+    let places : c.at ≡ d.at = p.at ∙ sym q.at in
+    λ i. record { operator = operators i; partial = partials i; at = places i }
+
+pub one_refusal : (piece : WrittenPiece) (r q : Option ℕ) → IsNoConstruct piece r → IsNoConstruct piece q → r ≡ q
+one_refusal piece None None x y = refl
+one_refusal piece None (Some b) x y = absurd (y.0 x)
+one_refusal piece (Some a) None x y = absurd (x.0 y)
+one_refusal piece (Some a) (Some b) x y = ap Some (x.1 ∙ sym y.1)
+
+-- Its first numeral past the limit has one place.
+one_past : (at : ℕ) (text : List ℕ) (r q : Option ℕ) → PastNumeral at text r → PastNumeral at text q → r ≡ q
+one_past at text r q (inl x) (inl y) = x.1 ∙ sym y.1
+one_past at text r q (inl x) (inr y) = absurd (cc (x.0, y.0))
+one_past at text r q (inr x) (inl y) = absurd (cc (x.0, y.0))
+one_past at text r q (inr (b, inl x)) (inr (d, inl y)) =
+    let n = one_parts x.0 y.0 x.1.form y.1.form (sym x.1.joined ∙ y.1.joined) in
+    x.2 ∙ cc (n.0, n.1, n.2, n.3) ∙ sym y.2
+one_past at text r q (inr (b, inl x)) (inr (d, inr y)) = absurd (y.0 x.0 x.1)
+one_past at text r q (inr (b, inr x)) (inr (d, inl y)) = absurd (x.0 y.0 y.1)
+one_past at text r q (inr (b, inr x)) (inr (d, inr y)) = x.1 ∙ sym y.1
+
+pub one_past_numeral : (piece : WrittenPiece) (r q : Option ℕ) → IsPastNumeral piece r → IsPastNumeral piece q → r ≡ q
+one_past_numeral piece r q x y = one_past _ (partial_text piece) r q x y
+
+-- what is within the limit does not pass it
+not_past : (run : List ℕ) → value run < 2 ^ 128 → is_past run ≡ false
+not_past run small = elim (cases_Bool (is_numeral run)) [
+  | inl is ↦ rw (is, lt-ltb (value run) (2 ^ 128) small) refl
+  | inr other ↦ rw other refl
+]
+
+before_any_most : (runs : List (List ℕ)) → length (before_any runs) ≤ length runs
+before_any_most [] = omega arith
+before_any_most (run ∷ runs) = elim (cases_Bool (is_any run)) [
+  | inl is ↦ rw is (omega arith)
+  | inr other ↦ rw other (omega (arith, before_any_most runs))
+]
+
+fits_each : (ns : List ℕ) → length ns < 4 → PartialFits (partial_of ns) → AllByRecursion (λ n. n < 2 ^ 128) ns
+fits_each [] less f = tt
+fits_each (a ∷ []) less f = (f, tt)
+fits_each (a ∷ b ∷ []) less f = (f.0, (f.1, tt))
+fits_each (a ∷ b ∷ c ∷ []) less f = (f.0, (f.1, (f.2, tt)))
+fits_each (a ∷ b ∷ c ∷ d ∷ ns) less f = absurd (omega (arith, less))
+
+short_none_past : (at : ℕ) (runs : List (List ℕ)) → AllByRecursion (λ n. n < 2 ^ 128) (map value (before_any runs)) → first_past true at runs ≡ None
+short_none_past at [] h = refl
+short_none_past at (run ∷ runs) h = elim (cases_Bool (is_any run)) [
+  | inl is ↦ rw is refl
+  | inr other ↦
+    let k = rw other at h in
+    rw (other, not_past run k.0) (short_none_past (at + length run + 1) runs k.1)
+]
+
+pre_none_past : (at : ℕ) (runs : List (List ℕ)) → AllByRecursion IdentFits (map identifier_of runs) → first_past false at runs ≡ None
+pre_none_past at [] h = refl
+pre_none_past at (run ∷ runs) h = elim (cases_Bool (is_numeral run)) [
+  | inl is ↦
+    let k = rw is at h in
+    rw (not_past run k.0) (pre_none_past (at + length run + 1) runs k.1)
+  | inr other ↦ rw other (pre_none_past (at + length run + 1) runs h.1)
+]
+
+whole_none_past : (at : ℕ) (p : Parts) → Fits (version_of p) → first_past false at (p.major ∷ p.minor ∷ p.patch ∷ p.pre) ≡ None
+whole_none_past at p f =
+    rw (not_past p.major f.0, not_past p.minor f.1, not_past p.patch f.2)
+    (pre_none_past (at + length p.major + 1 + length p.minor + 1 + length p.patch + 1) p.pre f.3)
+
+short_fits : (at : ℕ) (text : List ℕ) → is_short text ≡ true → PartialFits (partial_of (values text)) → first_past true at (numbers text) ≡ None
+short_fits at text is f =
+    let few : length (numbers text) < 4 = ltb-true _ _ (and_parts (list_all is_number (numbers text)) (ltb (length (numbers text)) 4) is).1 in
+    let most = before_any_most (numbers text) in
+    let size : length (values text) < 4 = omega (arith, few, most, length-map (before_any (numbers text)) value) in
+    short_none_past at (numbers text) (fits_each (values text) size f)
+
+whole_fits : (at : ℕ) (text : List ℕ) (p : Partial) → is_short text ≡ false → IsPartial text p → PartialFits p → PastNumeral at text None
+whole_fits at text p other (inl x) f = absurd (cc (x.0, other))
+whole_fits at text p other (inr x) f =
+    let e : p ≡ full (version_of x.spelled.parts) = x.is ∙ ap full x.spelled.values in
+    let f' : Fits (version_of x.spelled.parts) = subst PartialFits e f in
+    inr (other, inl (x.spelled.parts, written text x.version x.spelled, sym (whole_none_past at x.spelled.parts f')))
+
+-- no numeral of a partial passes the limit that is within it
+fits_none_past : (at : ℕ) (text : List ℕ) (p : Partial) → IsPartial text p → PartialFits p → PastNumeral at text None
+fits_none_past at text p is f = elim (cases_Bool (is_short text)) [
+  | inl short ↦ inl (short, sym (short_fits at text short (subst PartialFits (one_partial text p (partial_of (values text)) is (inl (short, refl))) f)))
+  | inr other ↦ whole_fits at text p other is f
+]
+
+pub reads_none_past : (piece : WrittenPiece) (c : Construct) → ReadsWithin piece c → IsPastNumeral piece None
+reads_none_past piece c r = fits_none_past _ (partial_text piece) c.partial r.0.partial r.1
