@@ -30,9 +30,10 @@ form_utf8 text (inr w) = version_utf8 text (version_of w.0) (record { parts = w.
 -- the form is there exactly where there is a value
 pub has_value : (text : List ℕ) → HasForm text → (p : Partial) × IsPartial text p
 has_value text (inl is) = (partial_of (values text), inl (is, refl))
-has_value text (inr w) =
-    (Full (without_build (version_of w.0)),
-    inr (record { version = version_of w.0; spelled = record { parts = w.0; joined = w.1.joined; form = w.1.form; values = refl }; is = refl }))
+has_value text (inr w) = (
+  Full (without_build (version_of w.0)),
+  inr (record { version = version_of w.0; spelled = record { parts = w.0; joined = w.1.joined; form = w.1.form; values = refl }; is = refl }),
+)
 
 pub value_has : (text : List ℕ) (p : Partial) → IsPartial text p → HasForm text
 value_has text p (inl x) = inl x.0

@@ -32,15 +32,16 @@ pieces_within : (at : ℕ) (text : List ℕ) (ps : List WrittenPiece) → ArePie
 pieces_within at text [] p = tt
 pieces_within at text (c ∷ ps) p =
     let most : length (behind_piece text) ≤ length text = omega (arith, from_most text, past_most is_solid (word_from text)) in
-    let e : place at text (behind_piece text) + length (behind_piece text) ≡ at + length text = omega (arith, most) in
-    (rw p.1 (word_within at text (word_from text) (from_most text)),
-    subst (λ (n : ℕ). AllByRecursion (Within n) ps) e (pieces_within (place at text (behind_piece text)) (behind_piece text) ps p.2))
+    let e : place at text (behind_piece text) + length (behind_piece text) ≡ at + length text = omega (arith, most) in (
+      rw p.1 (word_within at text (word_from text) (from_most text)),
+      subst (λ (n : ℕ). AllByRecursion (Within n) ps) e (pieces_within (place at text (behind_piece text)) (behind_piece text) ps p.2),
+    )
 
 constructs_within : (at : ℕ) (text : List ℕ) (cs : List WrittenPiece) → IsMadeOf at text cs → AllByRecursion (Within (at + length text)) cs
 constructs_within at text cs (inl p) =
     let first = past_most is_blank text in
     let third : length (next_from (next_from (past is_blank text))) ≤ length text =
-        omega (arith, first, next_most (past is_blank text), next_most (next_from (past is_blank text))) in
+    omega (arith, first, next_most (past is_blank text), next_most (next_from (past is_blank text))) in
     rw p.1 (word_within at text (past is_blank text) first, (word_within at text (next_from (next_from (past is_blank text))) third, tt))
 constructs_within at text cs (inr p) = pieces_within at text cs p.1
 

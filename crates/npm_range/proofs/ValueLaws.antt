@@ -30,11 +30,11 @@ none_short at [] all e = tt
 none_short at (run ∷ runs) all e = elim (cases_Bool (is_any run)) [
   | inl is ↦ rw is tt
   | inr other ↦
-    let a = and_parts (is_number run) (list_all is_number runs) all in
-    elim (cases_Bool (is_past run)) [
-      | inl past ↦ absurd (cc (rw (other, past) at e))
-      | inr fine ↦ rw other (within run (numeral_of run a.0 other) fine, none_short (at + length run + 1) runs a.1 (rw (other, fine) at e))
-    ]
+      let a = and_parts (is_number run) (list_all is_number runs) all in
+      elim (cases_Bool (is_past run)) [
+        | inl past ↦ absurd (cc (rw (other, past) at e))
+        | inr fine ↦ rw other (within run (numeral_of run a.0 other) fine, none_short (at + length run + 1) runs a.1 (rw (other, fine) at e))
+      ]
 ]
 
 head_fine : (at : ℕ) (run : List ℕ) (runs : List (List ℕ)) → first_past false at (run ∷ runs) ≡ None → (is_past run ≡ false) × (first_past false (at + length run + 1) runs ≡ None)
@@ -59,9 +59,12 @@ none_whole : (at : ℕ) (p : Parts) → HasForm p → first_past false at (p.maj
 none_whole at p form e =
     let a = head_fine at p.major (p.minor ∷ p.patch ∷ p.pre) e in
     let b = head_fine (at + length p.major + 1) p.minor (p.patch ∷ p.pre) a.1 in
-    let c = head_fine (at + length p.major + 1 + length p.minor + 1) p.patch p.pre b.1 in
-    (within p.major (plain p.major form.major) a.0, within p.minor (plain p.minor form.minor) b.0, within p.patch (plain p.patch form.patch) c.0,
-    none_pre (at + length p.major + 1 + length p.minor + 1 + length p.patch + 1) p.pre c.1)
+    let c = head_fine (at + length p.major + 1 + length p.minor + 1) p.patch p.pre b.1 in (
+      within p.major (plain p.major form.major) a.0,
+      within p.minor (plain p.minor form.minor) b.0,
+      within p.patch (plain p.patch form.patch) c.0,
+      none_pre (at + length p.major + 1 + length p.minor + 1 + length p.patch + 1) p.pre c.1,
+    )
 
 -- numbers that do not pass the limit are readable
 pub short_readable : (text : List ℕ) → NonePast text → is_short text ≡ true → AreReadable text

@@ -125,7 +125,7 @@ short_whole text p is w =
     let pre : p.pre ≡ [] = no_tail 45 p.pre (right (λ b. b ≢ 45) front (tail 45 p.pre) (left (λ b. b ≢ 45) (front ++ tail 45 p.pre) (tail 43 p.build) dash)) in
     let build : p.build ≡ [] = no_tail 43 p.build (right (λ b. b ≢ 43) (front ++ tail 45 p.pre) (tail 43 p.build) plus) in
     let e : text ≡ front = w.joined ∙ ap (λ (t : List (List ℕ)). front ++ tail 45 p.pre ++ tail 43 t) build ∙ append-nil (front ++ tail 45 p.pre)
-        ∙ ap (λ (t : List (List ℕ)). front ++ tail 45 t) pre ∙ append-nil front in
+    ∙ ap (λ (t : List (List ℕ)). front ++ tail 45 t) pre ∙ append-nil front in
     let n = core_numbers text p.major p.minor p.patch e w.form.major w.form.minor w.form.patch in
     rw (n, not_any p.major w.form.major, not_any p.minor w.form.minor, not_any p.patch w.form.patch, pre) refl
 
@@ -197,16 +197,16 @@ short_none_past at [] h = refl
 short_none_past at (run ∷ runs) h = elim (cases_Bool (is_any run)) [
   | inl is ↦ rw is refl
   | inr other ↦
-    let k = rw other at h in
-    rw (other, not_past run k.0) (short_none_past (at + length run + 1) runs k.1)
+      let k = rw other at h in
+      rw (other, not_past run k.0) (short_none_past (at + length run + 1) runs k.1)
 ]
 
 pre_none_past : (at : ℕ) (runs : List (List ℕ)) → AllByRecursion IdentFits (map identifier_of runs) → first_past false at runs ≡ None
 pre_none_past at [] h = refl
 pre_none_past at (run ∷ runs) h = elim (cases_Bool (is_numeral run)) [
   | inl is ↦
-    let k = rw is at h in
-    rw (not_past run k.0) (pre_none_past (at + length run + 1) runs k.1)
+      let k = rw is at h in
+      rw (not_past run k.0) (pre_none_past (at + length run + 1) runs k.1)
   | inr other ↦ rw other (pre_none_past (at + length run + 1) runs h.1)
 ]
 

@@ -5,7 +5,7 @@ use Rattle.std.specs.List.{AllByRecursion}
 use Rattle.vx_spec.specs.Numerals.{is_numeral, value}
 use Rattle.vx_spec.specs.Firsts.{IsFirst}
 use Rattle.vx_scheme.specs.declared.range_fault.RangeFault.{RangeFault}
-use Rattle.vx_scheme.specs.declared.range_fault.RangeFault.TheVariants.{Syntax, Numeral, NoEndpoint, NotBuilt, NoMemory}
+use Rattle.vx_scheme.specs.declared.range_fault.RangeFault.TheVariants.{Syntax, Numeral, NoEndpoint, NoMemory}
 use Rattle.npm_scheme.specs.Spelling.{Parts}
 use Rattle.npm_scheme.specs.Written.{IsWritten, NotWritten}
 use Rattle.npm_range.specs.Pieces.{WrittenPiece, IsCutInto}
@@ -62,5 +62,4 @@ abbrev pub IsRefusedFor : List ℕ → RangeFault → Type 0
 IsRefusedFor text (Syntax at) = IsFirstSyntax text at
 IsRefusedFor text (Numeral at) = IsFirstNumeral text at
 IsRefusedFor text (NoEndpoint kind at) = ⊥
-IsRefusedFor text NotBuilt = ⊥
 IsRefusedFor text NoMemory = ⊥

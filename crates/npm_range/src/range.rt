@@ -7,7 +7,8 @@ ghost use Rattle.npm_range.specs.declared.construct.Construct.{Construct};
 ghost use Rattle.npm_range.specs.Holds.{holds};
 ghost use Rattle.npm_range.specs.Spans.{made_spans};
 
-use crate::{reading, spans};
+use crate::reading::read;
+use crate::spans::made_bounds;
 use npm_scheme::{Npm, NpmVersion};
 use std::alloc::Global;
 use std::cmp::Ordering;
@@ -95,11 +96,7 @@ impl Native for NpmRange {
         Domain::All
     }
 
-    fn bounds(
-        alloc: Global,
-        text: &str,
-        domain: Domain,
-    ) -> Result<Bounds<NpmVersion>, RangeFault> {
+    fn bounds(alloc: Global, text: &str, domain: Domain) -> Result<Bounds<NpmVersion>, RangeFault> {
         let all = match read(alloc, text) {
             Ok(all) => all,
             Err(fault) => return Err(fault),

@@ -9,6 +9,7 @@ mod tests;
 mod version;
 mod writing;
 
+pub use order::order_by_first_difference;
 pub use scheme::Npm;
 pub use spelling::{Written, is_plain_numeral, take_apart, valued};
 pub use version::{NpmVersion, lowest};

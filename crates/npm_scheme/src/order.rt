@@ -1,4 +1,5 @@
 ghost use Rattle.std.specs.Prelude.{◌≡◌, [], map};
+ghost use Rattle.npm_scheme.specs.Version.{Fields};
 ghost use Rattle.vx_spec.specs.Rows.{rows_cmp};
 ghost use Rattle.npm_scheme.specs.Order.{order_of, AnswersKeys, entry, entry_cmp, pre_key};
 
@@ -54,3 +55,8 @@ fn compare_ident(a: &Ident, b: &Ident) -> Ordering
         (Ident::Word(v), Ident::Word(w)) => v.as_str().as_bytes().cmp(w.as_str().as_bytes()),
     }
 }
+
+/// The order goes by the first place at which the keys of two versions differ, with numerals of any size.
+pub fn order_by_first_difference()
+    ensures { (a b : Fields) → AnswersKeys a b (order_of a b) }
+{}

@@ -27,9 +27,6 @@ pub enum RangeFault {
     /// The construct at this place has no end in the domain.
     #[error("NoEndpoint")]
     NoEndpoint(EndKind, usize),
-    /// The text is not of the form that is built yet.
-    #[error("NotBuilt")]
-    NotBuilt,
     /// No memory was found.
     #[error("NoMemory")]
     NoMemory,

@@ -7,7 +7,7 @@ pub struct Cut<V> {
     pub version: V,
     /// Whether the cut stands after the order class.
     pub after: bool,
-    /// A running number of the cut, from 0.
+    /// Where the cut comes from: its number among the made cuts, from 0, or that of its constraint, from 1.
     pub mark: u64,
 }
 

@@ -6,6 +6,7 @@ use Rattle.std.specs.List.{prefix_len}
 abbrev pub is_blank : ℕ → Bool
 is_blank b = b == 32 || b == 9
 
+-- any other byte
 abbrev pub is_solid : ℕ → Bool
 is_solid b = not (is_blank b)
 

@@ -6,7 +6,8 @@ use Rattle.std.proofs.lemmas.List.{get_or-reverse, get_or-take, get_or-drop, tak
 use Rattle.std.proofs.lemmas.List.Sums.{prefix_len-le-length, prefix_len_passes, prefix_len_stops, list_all-from_AllPass}
 use Rattle.std.proofs.lemmas.List.Elements.{All-from_get_or}
 use Rattle.std.proofs.lemmas.List.Splits.{join_with_byte-slice_split}
-use Rattle.vx_text.specs.Pieces.{ArePieces, AreTheirPieces, IsPiece, is_blank, piece_of, places}
+use Rattle.vx_spec.specs.Runs.{is_blank}
+use Rattle.vx_text.specs.Pieces.{ArePieces, AreTheirPieces, IsPiece, piece_of, places}
 use Rattle.vx_text.proofs.Joins.{split_lacks, split_some}
 
 -- what passes at each index passes

@@ -1,12 +1,9 @@
 -- The pieces of a text: its parts between the separators, without the blanks at their ends.
-use Rattle.std.specs.Prelude.{◌≡◌, ◌==◌, ◌||◌, ◌+◌, ◌-◌, ◌<◌, ℕ, Bool, true, false, List, [], ◌∷◌, ◌++◌, length, slice_index, if◌then◌else◌}
+use Rattle.std.specs.Prelude.{◌≡◌, ◌==◌, ◌+◌, ◌-◌, ◌<◌, ℕ, true, false, List, [], ◌∷◌, ◌++◌, length, slice_index, if◌then◌else◌}
 use Rattle.std.specs.List.{prefix_len, suffix_len, join_with_byte, list_all, AllByRecursion}
 use Rattle.vx_spec.specs.Marks.{Lacks}
+use Rattle.vx_spec.specs.Runs.{is_blank}
 use Rattle.vx_text.specs.declared.cutting.Piece.{Piece}
-
--- a blank is a space or a tab
-abbrev pub is_blank : ℕ → Bool
-is_blank b = b == 32 || b == 9
 
 -- the piece of a part that begins at this place; a blank part is an empty piece at its own start
 abbrev pub piece_of : ℕ → List ℕ → Piece

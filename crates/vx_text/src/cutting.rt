@@ -1,6 +1,7 @@
 ghost use Rattle.std.specs.Prelude.{◌≡◌, ◌==◌, ◌≤◌, ◌<◌, ◌+◌, ◌^◌, length, IfOk};
 ghost use Rattle.std.specs.List.{prefix_len, slice_split, suffix_len};
-ghost use Rattle.vx_text.specs.Pieces.{ArePieces, is_blank, piece_of, places};
+ghost use Rattle.vx_spec.specs.Runs.{is_blank};
+ghost use Rattle.vx_text.specs.Pieces.{ArePieces, piece_of, places};
 
 use crate::marks::cut;
 use std::alloc::Global;

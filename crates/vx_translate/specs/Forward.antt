@@ -46,5 +46,5 @@ Refuses order Offers Makes Refused text refusal_of.Empty = Offers × IsEmpty ord
 Refuses order Offers Makes Refused text (refusal_of.BadVers part k) = ⊥
 Refuses order Offers Makes Refused text refusal_of.BadVersion = ⊥
 Refuses order Offers Makes Refused text (refusal_of.NoNative kind k) = ⊥
-Refuses order Offers Makes Refused text refusal_of.NotBuilt = Offers × Refused text fault_of.NotBuilt
+Refuses order Offers Makes Refused text refusal_of.NotBuilt = ⊥
 Refuses order Offers Makes Refused text refusal_of.NoMemory = Unit {0}

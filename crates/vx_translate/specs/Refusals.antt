@@ -8,5 +8,4 @@ abbrev pub refusal_of : RangeFault → Refusal
 refusal_of (fault_of.Syntax at) = refusal.Syntax at
 refusal_of (fault_of.Numeral at) = refusal.Numeral at
 refusal_of (fault_of.NoEndpoint kind at) = refusal.NoEndpoint kind at
-refusal_of fault_of.NotBuilt = refusal.NotBuilt
 refusal_of fault_of.NoMemory = refusal.NoMemory

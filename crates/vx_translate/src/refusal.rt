@@ -80,7 +80,6 @@ impl From<RangeFault> for Refusal {
             RangeFault::Syntax(at) => Refusal::Syntax(at),
             RangeFault::Numeral(at) => Refusal::Numeral(at),
             RangeFault::NoEndpoint(kind, at) => Refusal::NoEndpoint(kind, at),
-            RangeFault::NotBuilt => Refusal::NotBuilt,
             RangeFault::NoMemory => Refusal::NoMemory,
         }
     }
