@@ -7,8 +7,7 @@ use Rattle.vx_scheme.specs.Native.{by_domain}
 use Rattle.npm_scheme.specs.Version.{IsVersion, IsRelease}
 use Rattle.npm_scheme.specs.Order.{order_of}
 use Rattle.npm_scheme.specs.Writing.{normal}
-use Rattle.npm_range.specs.Reading.{In}
-use Rattle.npm_range.specs.Spans.{Makes, Refuses as NpmRefuses}
+use Rattle.npm_range.specs.Range.{In, Makes, Refuses as NpmRefuses}
 use Rattle.vx_translate.specs.Forward.{Translates, HoldsSame, Refuses}
 use Rattle.vx_translate.specs.declared.refusal.Refusal.{Refusal}
 use Rattle.vx_translate.specs.declared.refusal.Refusal.TheVariants as refusal_of
