@@ -17,8 +17,8 @@ first_found [] less = absurd (omega arith)
 first_found (b ∷ text) less = elim (cases_Bool (is_bar b && begins is_bar text)) [
   | inl is ↦ rw is refl
   | inr other ↦
-    let small : before_bars text < length text = let s = rw other at less in omega (arith, s) in
-    rw (other, begins_before text small, other, first_found text small) refl
+      let small : before_bars text < length text = let s = rw other at less in omega (arith, s) in
+      rw (other, begins_before text small, other, first_found text small) refl
 ]
 
 begins_split : (text : List ℕ) → begins is_bar text ≡ true → text ≡ 124 ∷ drop 1 text
@@ -32,11 +32,11 @@ pub joined_found : (text : List ℕ) → before_bars text < length text → text
 joined_found [] less = absurd (omega arith)
 joined_found (b ∷ text) less = elim (cases_Bool (is_bar b && begins is_bar text)) [
   | inl is ↦
-    let a = and_parts (is_bar b) (begins is_bar text) is in
-    rw is (ap (λ (x : ℕ). x ∷ text) (eqb-true b 124 a.0) ∙ ap (λ (t : List ℕ). 124 ∷ t) (begins_split text a.1))
+      let a = and_parts (is_bar b) (begins is_bar text) is in
+      rw is (ap (λ (x : ℕ). x ∷ text) (eqb-true b 124 a.0) ∙ ap (λ (t : List ℕ). 124 ∷ t) (begins_split text a.1))
   | inr other ↦
-    let small : before_bars text < length text = let s = rw other at less in omega (arith, s) in
-    rw (other, drop_two b (before_bars text) text) (ap (λ (t : List ℕ). b ∷ t) (joined_found text small))
+      let small : before_bars text < length text = let s = rw other at less in omega (arith, s) in
+      rw (other, drop_two b (before_bars text) text) (ap (λ (t : List ℕ). b ∷ t) (joined_found text small))
 ]
 
 pub none_found : (text : List ℕ) → before_bars text ≡ length text → has_bars text ≡ false
@@ -62,6 +62,6 @@ two_within [] less = absurd (omega arith)
 two_within (b ∷ text) less = elim (cases_Bool (is_bar b && begins is_bar text)) [
   | inl is ↦ let a = and_parts (is_bar b) (begins is_bar text) is in rw is (omega (arith, begins_some text a.1))
   | inr other ↦
-    let small : before_bars text < length text = let s = rw other at less in omega (arith, s) in
-    rw other (omega (arith, two_within text small))
+      let small : before_bars text < length text = let s = rw other at less in omega (arith, s) in
+      rw other (omega (arith, two_within text small))
 ]

@@ -1,10 +1,9 @@
 -- Each piece stands within the text.
-use Rattle.std.proofs.Common.{◌≡◌, ◌<◌, ◌≤◌, ◌+◌, ◌-◌, ◌^◌, refl, sym, Bool, true, false, ℕ, zero, suc, List, [], ◌∷◌, ◌++◌, length, map, get_or, ap, ◌∙◌, inl, inr, arith, length-append, subst, None}
+use Rattle.std.proofs.Common.{◌≡◌, ◌<◌, ◌≤◌, ◌+◌, ◌^◌, refl, Bool, ℕ, zero, suc, List, [], ◌∷◌, ◌++◌, length, map, get_or, ap, ◌∙◌, inl, inr, arith, length-append, subst, None}
 use Rattle.std.specs.List.{AllByRecursion}
 use Rattle.std.specs.Str.{IsUtf8}
 use Rattle.std.proofs.lemmas.Bool.{cases_Bool}
 use Rattle.vx_spec.specs.Runs.{is_blank, is_solid, run, past}
-use Rattle.vx_spec.specs.Firsts.{IsFirst}
 use Rattle.vx_spec.proofs.RunLaws.{past_most, run_past}
 use Rattle.npm_range.specs.Alternatives.{Placed, AreAlternatives}
 use Rattle.npm_range.specs.Pieces.{is_sign, place, WrittenPiece, piece_from, word_from, behind_piece, ArePieces, next_from, IsMadeOf, AreEach, IsCutInto}
@@ -32,15 +31,16 @@ pieces_within : (at : ℕ) (text : List ℕ) (ps : List WrittenPiece) → ArePie
 pieces_within at text [] p = tt
 pieces_within at text (c ∷ ps) p =
     let most : length (behind_piece text) ≤ length text = omega (arith, from_most text, past_most is_solid (word_from text)) in
-    let e : place at text (behind_piece text) + length (behind_piece text) ≡ at + length text = omega (arith, most) in
-    (rw p.1 (word_within at text (word_from text) (from_most text)),
-    subst (λ (n : ℕ). AllByRecursion (Within n) ps) e (pieces_within (place at text (behind_piece text)) (behind_piece text) ps p.2))
+    let e : place at text (behind_piece text) + length (behind_piece text) ≡ at + length text = omega (arith, most) in (
+      rw p.1 (word_within at text (word_from text) (from_most text)),
+      subst (λ (n : ℕ). AllByRecursion (Within n) ps) e (pieces_within (place at text (behind_piece text)) (behind_piece text) ps p.2),
+    )
 
 constructs_within : (at : ℕ) (text : List ℕ) (cs : List WrittenPiece) → IsMadeOf at text cs → AllByRecursion (Within (at + length text)) cs
 constructs_within at text cs (inl p) =
     let first = past_most is_blank text in
     let third : length (next_from (next_from (past is_blank text))) ≤ length text =
-        omega (arith, first, next_most (past is_blank text), next_most (next_from (past is_blank text))) in
+    omega (arith, first, next_most (past is_blank text), next_most (next_from (past is_blank text))) in
     rw p.1 (word_within at text (past is_blank text) first, (word_within at text (next_from (next_from (past is_blank text))) third, tt))
 constructs_within at text cs (inr p) = pieces_within at text cs p.1
 

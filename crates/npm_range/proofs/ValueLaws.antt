@@ -1,7 +1,7 @@
 -- What is read where no numeral passes the limit.
-use Rattle.std.proofs.Common.{◌≡◌, ◌<◌, ◌+◌, ◌^◌, ◌&&◌, not, ℕ, zero, suc, List, [], ◌∷◌, ◌++◌, length, map, get_or, drop, Bool, true, false, refl, sym, ap, ◌∙◌, inl, inr, arith, ltb, Option, Some, None, subst}
+use Rattle.std.proofs.Common.{◌≡◌, ◌<◌, ◌+◌, ◌^◌, not, ℕ, zero, suc, List, [], ◌∷◌, ◌++◌, length, map, get_or, true, false, refl, sym, ap, ◌∙◌, inl, inr, arith, ltb, Option, Some, None, subst}
 use Rattle.std.specs.List.{list_all, AllByRecursion}
-use Rattle.std.proofs.lemmas.Bool.{cases_Bool, and_parts, ltb-true, not-true}
+use Rattle.std.proofs.lemmas.Bool.{cases_Bool, and_parts, ltb-true}
 use Rattle.vx_spec.specs.Numerals.{is_numeral, value}
 use Rattle.vx_spec.specs.Marks.{IsCut}
 use Rattle.vx_spec.specs.Firsts.{IsFirst}
@@ -10,8 +10,8 @@ use Rattle.npm_scheme.specs.Spelling.{Parts, HasForm, is_plain_numeral, has_lead
 use Rattle.npm_scheme.specs.Written.{IsWritten}
 use Rattle.npm_scheme.specs.Unique.{one_version}
 use Rattle.npm_range.specs.Pieces.{WrittenPiece}
-use Rattle.npm_range.specs.Partials.{is_any, is_number, numbers, is_short, before_any, values, partial_text}
-use Rattle.npm_range.specs.Refusals.{is_past, first_past, PastNumeral, flat}
+use Rattle.npm_range.specs.Partials.{is_any, is_number, numbers, is_short, before_any, values}
+use Rattle.npm_range.specs.Refusals.{is_past, first_past, flat}
 use Rattle.npm_range.specs.Forms.{NonePast, AreReadable, AreReadableBehind, values_behind}
 use Rattle.npm_range.specs.OnePartial.{split_none, split_some}
 
@@ -19,7 +19,7 @@ use Rattle.npm_range.specs.OnePartial.{split_none, split_some}
 within : (run : List ℕ) → is_numeral run ≡ true → is_past run ≡ false → value run < 2 ^ 128
 within run is fine = elim (cases_Bool (ltb (value run) (2 ^ 128))) [
   | inl small ↦ ltb-true (value run) (2 ^ 128) small
-  | inr other ↦ absurd (cc (is, other, rw (is, other) at fine))
+  | inr other ↦ absurd (cc (rw (is, other) at fine))
 ]
 
 numeral_of : (run : List ℕ) → is_number run ≡ true → is_any run ≡ false → is_numeral run ≡ true
@@ -30,11 +30,11 @@ none_short at [] all e = tt
 none_short at (run ∷ runs) all e = elim (cases_Bool (is_any run)) [
   | inl is ↦ rw is tt
   | inr other ↦
-    let a = and_parts (is_number run) (list_all is_number runs) all in
-    elim (cases_Bool (is_past run)) [
-      | inl past ↦ absurd (cc (rw (other, past) at e))
-      | inr fine ↦ rw other (within run (numeral_of run a.0 other) fine, none_short (at + length run + 1) runs a.1 (rw (other, fine) at e))
-    ]
+      let a = and_parts (is_number run) (list_all is_number runs) all in
+      elim (cases_Bool (is_past run)) [
+        | inl past ↦ absurd (cc (rw (other, past) at e))
+        | inr fine ↦ rw other (within run (numeral_of run a.0 other) fine, none_short (at + length run + 1) runs a.1 (rw (other, fine) at e))
+      ]
 ]
 
 head_fine : (at : ℕ) (run : List ℕ) (runs : List (List ℕ)) → first_past false at (run ∷ runs) ≡ None → (is_past run ≡ false) × (first_past false (at + length run + 1) runs ≡ None)
@@ -59,9 +59,12 @@ none_whole : (at : ℕ) (p : Parts) → HasForm p → first_past false at (p.maj
 none_whole at p form e =
     let a = head_fine at p.major (p.minor ∷ p.patch ∷ p.pre) e in
     let b = head_fine (at + length p.major + 1) p.minor (p.patch ∷ p.pre) a.1 in
-    let c = head_fine (at + length p.major + 1 + length p.minor + 1) p.patch p.pre b.1 in
-    (within p.major (plain p.major form.major) a.0, within p.minor (plain p.minor form.minor) b.0, within p.patch (plain p.patch form.patch) c.0,
-    none_pre (at + length p.major + 1 + length p.minor + 1 + length p.patch + 1) p.pre c.1)
+    let c = head_fine (at + length p.major + 1 + length p.minor + 1) p.patch p.pre b.1 in (
+      within p.major (plain p.major form.major) a.0,
+      within p.minor (plain p.minor form.minor) b.0,
+      within p.patch (plain p.patch form.patch) c.0,
+      none_pre (at + length p.major + 1 + length p.minor + 1 + length p.patch + 1) p.pre c.1,
+    )
 
 -- numbers that do not pass the limit are readable
 pub short_readable : (text : List ℕ) → NonePast text → is_short text ≡ true → AreReadable text

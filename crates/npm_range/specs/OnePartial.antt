@@ -1,6 +1,6 @@
 -- A piece is one construct, and the first of its numerals past the limit has one place.
-use Rattle.std.proofs.Common.{◌≡◌, ◌≢◌, ◌<◌, ◌≤◌, ◌+◌, ◌^◌, ◌&&◌, ◌||◌, not, ℕ, suc, List, [], ◌∷◌, ◌++◌, length, map, eqb, ltb, Bool, true, false, refl, sym, ap, ◌∙◌, inl, inr, arith, subst, append-nil, if◌then◌else◌, Option, Some, None}
-use Rattle.std.specs.List.{list_all, slice_split, AllByRecursion}
+use Rattle.std.proofs.Common.{◌≡◌, ◌≢◌, ◌<◌, ◌≤◌, ◌+◌, ◌^◌, ◌||◌, not, ℕ, List, [], ◌∷◌, ◌++◌, length, map, eqb, ltb, Bool, true, false, refl, sym, ap, ◌∙◌, inl, inr, arith, subst, append-nil, if◌then◌else◌, Option, Some, None}
+use Rattle.std.specs.List.{list_all, AllByRecursion}
 use Rattle.std.specs.Char.{is_ascii_digit}
 use Rattle.std.proofs.lemmas.List.{length-map}
 use Rattle.std.proofs.lemmas.List.Splits.{slice_split_none, slice_split_at, join_with_byte-slice_split}
@@ -9,9 +9,9 @@ use Rattle.std.proofs.lemmas.Bool.{cases_Bool, and_parts, ne_eqb, lt-ltb, ltb-tr
 use Rattle.std.proofs.lemmas.Bool.Decides.{nat_tests}
 use Rattle.vx_spec.specs.Marks.{IsCut, Lacks}
 use Rattle.vx_spec.specs.Numerals.{is_numeral, value}
-use Rattle.vx_spec.proofs.TextLaws.{each_by_test, each_append, each_joined, each_part}
+use Rattle.vx_spec.proofs.TextLaws.{each_by_test, each_joined, each_part}
 use Rattle.npm_scheme.specs.Version.{Fields, Fits, IdentFits, without_build}
-use Rattle.npm_scheme.specs.Spelling.{Parts, HasForm, Spells, is_plain_numeral, has_leading_zero, core, tail, whole, identifier_of, version_of}
+use Rattle.npm_scheme.specs.Spelling.{Parts, Spells, is_plain_numeral, has_leading_zero, core, tail, whole, identifier_of, version_of}
 use Rattle.npm_scheme.specs.Written.{IsWritten}
 use Rattle.npm_scheme.specs.Unique.{one_parts, one_reading}
 use Rattle.npm_range.specs.Pieces.{WrittenPiece}
@@ -24,7 +24,7 @@ use Rattle.npm_range.specs.declared.construct.Construct.{Construct}
 use Rattle.npm_range.specs.declared.construct.Operator.{Operator}
 use Rattle.npm_range.specs.declared.construct.Operator.TheVariants as operator_of
 use Rattle.npm_range.specs.declared.construct.Partial.{Partial}
-use Rattle.npm_range.specs.declared.construct.Partial.TheVariants.{Any, Major, Minor, Full}
+use Rattle.npm_range.specs.declared.construct.Partial.TheVariants.{Full}
 
 -- the operator that signs write, where they write one
 abbrev written_by : List ℕ → Operator
@@ -125,7 +125,7 @@ short_whole text p is w =
     let pre : p.pre ≡ [] = no_tail 45 p.pre (right (λ b. b ≢ 45) front (tail 45 p.pre) (left (λ b. b ≢ 45) (front ++ tail 45 p.pre) (tail 43 p.build) dash)) in
     let build : p.build ≡ [] = no_tail 43 p.build (right (λ b. b ≢ 43) (front ++ tail 45 p.pre) (tail 43 p.build) plus) in
     let e : text ≡ front = w.joined ∙ ap (λ (t : List (List ℕ)). front ++ tail 45 p.pre ++ tail 43 t) build ∙ append-nil (front ++ tail 45 p.pre)
-        ∙ ap (λ (t : List (List ℕ)). front ++ tail 45 t) pre ∙ append-nil front in
+    ∙ ap (λ (t : List (List ℕ)). front ++ tail 45 t) pre ∙ append-nil front in
     let n = core_numbers text p.major p.minor p.patch e w.form.major w.form.minor w.form.patch in
     rw (n, not_any p.major w.form.major, not_any p.minor w.form.minor, not_any p.patch w.form.patch, pre) refl
 
@@ -197,16 +197,16 @@ short_none_past at [] h = refl
 short_none_past at (run ∷ runs) h = elim (cases_Bool (is_any run)) [
   | inl is ↦ rw is refl
   | inr other ↦
-    let k = rw other at h in
-    rw (other, not_past run k.0) (short_none_past (at + length run + 1) runs k.1)
+      let k = rw other at h in
+      rw (other, not_past run k.0) (short_none_past (at + length run + 1) runs k.1)
 ]
 
 pre_none_past : (at : ℕ) (runs : List (List ℕ)) → AllByRecursion IdentFits (map identifier_of runs) → first_past false at runs ≡ None
 pre_none_past at [] h = refl
 pre_none_past at (run ∷ runs) h = elim (cases_Bool (is_numeral run)) [
   | inl is ↦
-    let k = rw is at h in
-    rw (not_past run k.0) (pre_none_past (at + length run + 1) runs k.1)
+      let k = rw is at h in
+      rw (not_past run k.0) (pre_none_past (at + length run + 1) runs k.1)
   | inr other ↦ rw other (pre_none_past (at + length run + 1) runs h.1)
 ]
 

@@ -9,6 +9,8 @@ mod reader;
 mod reading;
 mod refusals;
 mod spans;
+#[cfg(test)]
+mod tests;
 mod values;
 
 pub use construct::{Construct, Constructs, Operator, Partial};

@@ -189,8 +189,20 @@ fn hyphen_range(text: &[u8], at: usize) -> Option<(Piece<'_>, Piece<'_>)>
         let low_at = at + (text.len() - first.len());
         let high_at = at + (text.len() - third.len());
         Some((
-            Piece { kind: Kind::Low, at: low_at, signs: &[], word_at: low_at, word: low },
-            Piece { kind: Kind::High, at: high_at, signs: &[], word_at: high_at, word: high },
+            Piece {
+                kind: Kind::Low,
+                at: low_at,
+                signs: &[],
+                word_at: low_at,
+                word: low,
+            },
+            Piece {
+                kind: Kind::High,
+                at: high_at,
+                signs: &[],
+                word_at: high_at,
+                word: high,
+            },
         ))
     } else {
         None

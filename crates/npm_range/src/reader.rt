@@ -37,5 +37,4 @@ pub(crate) fn one_answer()
     ensures apart { (text : List ℕ) (a b : ℕ) → IsFirstSyntax text a → ¬ (IsFirstNumeral text b) }
     ensures not_read { (text : List ℕ) (at : ℕ) (all : List (List Construct)) → IsFirstSyntax text at → ¬ (Reads text all) }
     ensures not_within { (text : List ℕ) (at : ℕ) (all : List (List Construct)) → IsFirstNumeral text at → Reads text all → ¬ (IsWithinAll all) }
-{
-}
+{}

@@ -1,4 +1,4 @@
-use Rattle.std.proofs.Common.{◌≡◌, ◌+◌, arith, length, sym, ◌∙◌, ap, rules, Some, None, List, [], ℕ}
+use Rattle.std.proofs.Common.{arith, sym, ◌∙◌, ap, rules, []}
 use Rattle.npm_range.specs.Partials.{numbers}
 use Rattle.npm_range.specs.Refusals.{first_past}
 use Rattle.npm_range.specs.OnePartial.{split_none, split_some}
@@ -25,8 +25,9 @@ returns-in_default c =
 
 pub loop-run-preserved : goal.loop-run-preserved
 loop-run-preserved c =
-    let k = rw c.in-Some.is at c.cut.ensures in
-    (omega (arith, cut_length _ _ _ k, c.loop-run.invariant.0),
-    sym (ap (first_past c.args.stops c.loop-run.from) (split_some _ _ _ k)
-    ∙ past_next c.args.stops c.loop-run.from c.cut.result.0.now (numbers c.in-Some.more.now) (search rules) (search rules)) ∙ c.loop-run.invariant.1,
-    search rules)
+    let k = rw c.in-Some.is at c.cut.ensures in (
+      omega (arith, cut_length _ _ _ k, c.loop-run.invariant.0),
+      sym (ap (first_past c.args.stops c.loop-run.from) (split_some _ _ _ k)
+          ∙ past_next c.args.stops c.loop-run.from c.cut.result.0.now (numbers c.in-Some.more.now) (search rules) (search rules)) ∙ c.loop-run.invariant.1,
+      search rules,
+    )
