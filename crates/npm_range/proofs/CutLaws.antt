@@ -1,5 +1,5 @@
 -- How a text is cut up step by step.
-use Rattle.std.proofs.Common.{◌≡◌, ◌≢◌, ◌<◌, ◌≤◌, ◌+◌, ◌-◌, ℕ, List, [], ◌∷◌, ◌++◌, length, true, false, refl, ap, inl, inr, arith, subst, append_assoc}
+use Rattle.std.proofs.Common.{◌≡◌, ◌≢◌, ◌<◌, ◌+◌, ℕ, List, [], ◌∷◌, ◌++◌, length, true, false, refl, inl, inr, arith, subst, append_assoc}
 use Rattle.std.proofs.lemmas.Bool.{cases_Bool}
 use Rattle.vx_spec.specs.Runs.{is_blank, is_solid, begins, past}
 use Rattle.vx_spec.proofs.RunLaws.{past_begins, past_stays, past_most, past_less}

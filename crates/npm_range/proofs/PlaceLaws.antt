@@ -1,10 +1,9 @@
 -- Each piece stands within the text.
-use Rattle.std.proofs.Common.{◌≡◌, ◌<◌, ◌≤◌, ◌+◌, ◌-◌, ◌^◌, refl, sym, Bool, true, false, ℕ, zero, suc, List, [], ◌∷◌, ◌++◌, length, map, get_or, ap, ◌∙◌, inl, inr, arith, length-append, subst, None}
+use Rattle.std.proofs.Common.{◌≡◌, ◌<◌, ◌≤◌, ◌+◌, ◌^◌, refl, Bool, ℕ, zero, suc, List, [], ◌∷◌, ◌++◌, length, map, get_or, ap, ◌∙◌, inl, inr, arith, length-append, subst, None}
 use Rattle.std.specs.List.{AllByRecursion}
 use Rattle.std.specs.Str.{IsUtf8}
 use Rattle.std.proofs.lemmas.Bool.{cases_Bool}
 use Rattle.vx_spec.specs.Runs.{is_blank, is_solid, run, past}
-use Rattle.vx_spec.specs.Firsts.{IsFirst}
 use Rattle.vx_spec.proofs.RunLaws.{past_most, run_past}
 use Rattle.npm_range.specs.Alternatives.{Placed, AreAlternatives}
 use Rattle.npm_range.specs.Pieces.{is_sign, place, WrittenPiece, piece_from, word_from, behind_piece, ArePieces, next_from, IsMadeOf, AreEach, IsCutInto}

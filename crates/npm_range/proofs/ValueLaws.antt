@@ -1,7 +1,7 @@
 -- What is read where no numeral passes the limit.
-use Rattle.std.proofs.Common.{◌≡◌, ◌<◌, ◌+◌, ◌^◌, ◌&&◌, not, ℕ, zero, suc, List, [], ◌∷◌, ◌++◌, length, map, get_or, drop, Bool, true, false, refl, sym, ap, ◌∙◌, inl, inr, arith, ltb, Option, Some, None, subst}
+use Rattle.std.proofs.Common.{◌≡◌, ◌<◌, ◌+◌, ◌^◌, not, ℕ, zero, suc, List, [], ◌∷◌, ◌++◌, length, map, get_or, true, false, refl, sym, ap, ◌∙◌, inl, inr, arith, ltb, Option, Some, None, subst}
 use Rattle.std.specs.List.{list_all, AllByRecursion}
-use Rattle.std.proofs.lemmas.Bool.{cases_Bool, and_parts, ltb-true, not-true}
+use Rattle.std.proofs.lemmas.Bool.{cases_Bool, and_parts, ltb-true}
 use Rattle.vx_spec.specs.Numerals.{is_numeral, value}
 use Rattle.vx_spec.specs.Marks.{IsCut}
 use Rattle.vx_spec.specs.Firsts.{IsFirst}
@@ -10,8 +10,8 @@ use Rattle.npm_scheme.specs.Spelling.{Parts, HasForm, is_plain_numeral, has_lead
 use Rattle.npm_scheme.specs.Written.{IsWritten}
 use Rattle.npm_scheme.specs.Unique.{one_version}
 use Rattle.npm_range.specs.Pieces.{WrittenPiece}
-use Rattle.npm_range.specs.Partials.{is_any, is_number, numbers, is_short, before_any, values, partial_text}
-use Rattle.npm_range.specs.Refusals.{is_past, first_past, PastNumeral, flat}
+use Rattle.npm_range.specs.Partials.{is_any, is_number, numbers, is_short, before_any, values}
+use Rattle.npm_range.specs.Refusals.{is_past, first_past, flat}
 use Rattle.npm_range.specs.Forms.{NonePast, AreReadable, AreReadableBehind, values_behind}
 use Rattle.npm_range.specs.OnePartial.{split_none, split_some}
 
@@ -19,7 +19,7 @@ use Rattle.npm_range.specs.OnePartial.{split_none, split_some}
 within : (run : List ℕ) → is_numeral run ≡ true → is_past run ≡ false → value run < 2 ^ 128
 within run is fine = elim (cases_Bool (ltb (value run) (2 ^ 128))) [
   | inl small ↦ ltb-true (value run) (2 ^ 128) small
-  | inr other ↦ absurd (cc (is, other, rw (is, other) at fine))
+  | inr other ↦ absurd (cc (rw (is, other) at fine))
 ]
 
 numeral_of : (run : List ℕ) → is_number run ≡ true → is_any run ≡ false → is_numeral run ≡ true

@@ -17,8 +17,8 @@ abbrev pub HasNoOperator : WrittenPiece → Type 0
 HasNoOperator piece = (operator : Operator) → ¬ (HasOperator piece.kind piece.signs operator)
 
 -- the text has the form of a partial
-abbrev pub HasForm : List ℕ → Type 0
-HasForm text = (is_short text ≡ true) ⊎ ((p : Parts) × IsWritten text p)
+abbrev pub HasPartialForm : List ℕ → Type 0
+HasPartialForm text = (is_short text ≡ true) ⊎ ((p : Parts) × IsWritten text p)
 
 -- no numeral of a partial passes the limit
 abbrev pub NonePast : List ℕ → Type 0

@@ -52,7 +52,8 @@ one_alternatives at text (a ∷ d ∷ ps) (b ∷ c ∷ qs) p q =
     let same = one_cut_at_bars text a.bytes b.bytes p.0 q.0 p.1 q.1 in
     let here : AreAlternatives (at + length a.bytes + 2) p.0 (c ∷ qs) = rw (same.0, same.1) q.3 in
     let rest = one_alternatives (at + length a.bytes + 2) p.0 (d ∷ ps) (c ∷ qs) p.3 here in
-    let first : a ≡ b = ap (λ (n : ℕ). record { at = n; bytes = a.bytes }) (p.2 ∙ sym q.2) ∙ ap (λ (t : List ℕ). record { at = b.at; bytes = t }) same.0 in
+    let places : a.at ≡ b.at = p.2 ∙ sym q.2 in
+    let first : a ≡ b = λ i. record { at = places i; bytes = same.0 i } in
     cc (first, rest)
 
 -- A text has one list of pieces.

@@ -1,6 +1,6 @@
 -- A piece is one construct, and the first of its numerals past the limit has one place.
-use Rattle.std.proofs.Common.{◌≡◌, ◌≢◌, ◌<◌, ◌≤◌, ◌+◌, ◌^◌, ◌&&◌, ◌||◌, not, ℕ, suc, List, [], ◌∷◌, ◌++◌, length, map, eqb, ltb, Bool, true, false, refl, sym, ap, ◌∙◌, inl, inr, arith, subst, append-nil, if◌then◌else◌, Option, Some, None}
-use Rattle.std.specs.List.{list_all, slice_split, AllByRecursion}
+use Rattle.std.proofs.Common.{◌≡◌, ◌≢◌, ◌<◌, ◌≤◌, ◌+◌, ◌^◌, ◌||◌, not, ℕ, List, [], ◌∷◌, ◌++◌, length, map, eqb, ltb, Bool, true, false, refl, sym, ap, ◌∙◌, inl, inr, arith, subst, append-nil, if◌then◌else◌, Option, Some, None}
+use Rattle.std.specs.List.{list_all, AllByRecursion}
 use Rattle.std.specs.Char.{is_ascii_digit}
 use Rattle.std.proofs.lemmas.List.{length-map}
 use Rattle.std.proofs.lemmas.List.Splits.{slice_split_none, slice_split_at, join_with_byte-slice_split}
@@ -9,9 +9,9 @@ use Rattle.std.proofs.lemmas.Bool.{cases_Bool, and_parts, ne_eqb, lt-ltb, ltb-tr
 use Rattle.std.proofs.lemmas.Bool.Decides.{nat_tests}
 use Rattle.vx_spec.specs.Marks.{IsCut, Lacks}
 use Rattle.vx_spec.specs.Numerals.{is_numeral, value}
-use Rattle.vx_spec.proofs.TextLaws.{each_by_test, each_append, each_joined, each_part}
+use Rattle.vx_spec.proofs.TextLaws.{each_by_test, each_joined, each_part}
 use Rattle.npm_scheme.specs.Version.{Fields, Fits, IdentFits, without_build}
-use Rattle.npm_scheme.specs.Spelling.{Parts, HasForm, Spells, is_plain_numeral, has_leading_zero, core, tail, whole, identifier_of, version_of}
+use Rattle.npm_scheme.specs.Spelling.{Parts, Spells, is_plain_numeral, has_leading_zero, core, tail, whole, identifier_of, version_of}
 use Rattle.npm_scheme.specs.Written.{IsWritten}
 use Rattle.npm_scheme.specs.Unique.{one_parts, one_reading}
 use Rattle.npm_range.specs.Pieces.{WrittenPiece}
@@ -24,7 +24,7 @@ use Rattle.npm_range.specs.declared.construct.Construct.{Construct}
 use Rattle.npm_range.specs.declared.construct.Operator.{Operator}
 use Rattle.npm_range.specs.declared.construct.Operator.TheVariants as operator_of
 use Rattle.npm_range.specs.declared.construct.Partial.{Partial}
-use Rattle.npm_range.specs.declared.construct.Partial.TheVariants.{Any, Major, Minor, Full}
+use Rattle.npm_range.specs.declared.construct.Partial.TheVariants.{Full}
 
 -- the operator that signs write, where they write one
 abbrev written_by : List ℕ → Operator

@@ -1,5 +1,5 @@
 -- A text has one reading, or one first refusal, and none has both within the limits.
-use Rattle.std.proofs.Common.{◌≡◌, ℕ, List, [], ◌∷◌, refl, sym, subst, inl, inr, Option, Some, None}
+use Rattle.std.proofs.Common.{◌≡◌, ℕ, List, [], ◌∷◌, refl, inl, Option, Some, None}
 use Rattle.std.specs.List.{AllByRecursion}
 use Rattle.vx_spec.specs.Firsts.{IsFirst}
 use Rattle.vx_spec.proofs.FirstLaws.{first_pass, one_first}

@@ -1,7 +1,6 @@
 -- The first refusal of a range text: of pieces, the first that is no construct; where there is none such, of numerals,
 -- the first that passes 2^128-1.
-use Rattle.std.specs.Prelude.{◌≡◌, ◌<◌, ◌&&◌, ◌+◌, ◌-◌, ◌^◌, not, nat_lt, ℕ, Bool, true, false, List, [], ◌∷◌, ◌++◌, ◌⊎◌, length, if◌then◌else◌, Option, Some, None}
-use Rattle.std.specs.List.{AllByRecursion}
+use Rattle.std.specs.Prelude.{◌≡◌, ◌&&◌, ◌+◌, ◌-◌, ◌^◌, not, nat_lt, ℕ, Bool, true, false, List, [], ◌∷◌, ◌++◌, ◌⊎◌, length, if◌then◌else◌, Option, Some, None}
 use Rattle.vx_spec.specs.Numerals.{is_numeral, value}
 use Rattle.vx_spec.specs.Firsts.{IsFirst}
 use Rattle.vx_scheme.specs.declared.range_fault.RangeFault.{RangeFault}

@@ -8,6 +8,8 @@ mod range;
 mod reading;
 mod refusals;
 mod spans;
+#[cfg(test)]
+mod tests;
 mod values;
 
 pub use construct::{Construct, Constructs, Operator, Partial};

@@ -4,7 +4,7 @@ ghost use Rattle.npm_scheme.specs.Spelling.{Parts};
 ghost use Rattle.npm_scheme.specs.Written.{IsWritten};
 ghost use Rattle.npm_range.specs.Pieces.{seen};
 ghost use Rattle.npm_range.specs.Partials.{is_any, is_number, is_short, IsOperator, HasOperator, without, partial_text, IsConstruct};
-ghost use Rattle.npm_range.specs.Forms.{NoOperator, HasNoOperator, HasForm};
+ghost use Rattle.npm_range.specs.Forms.{NoOperator, HasNoOperator, HasPartialForm};
 
 use crate::construct::Operator;
 use crate::pieces::{Kind, Piece};
@@ -54,13 +54,13 @@ fn is_whole(text: &str) -> bool
 }
 
 fn has_form(text: &str) -> bool
-    ensures { IsTrue result ↔ HasForm text.now }
+    ensures { IsTrue result ↔ HasPartialForm text.now }
 {
     is_short(text) || is_whole(text)
 }
 
 fn is_partial(text: &[u8]) -> bool
-    ensures { IsTrue result ↔ HasForm text.now }
+    ensures { IsTrue result ↔ HasPartialForm text.now }
 {
     match str::from_utf8(text) {
         Ok(text) => has_form(text),

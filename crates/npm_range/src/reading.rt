@@ -1,7 +1,8 @@
-ghost use Rattle.std.specs.Prelude.{IfErr, IfOk};
+ghost use Rattle.std.specs.Prelude.{◌≡◌, ℕ, List, IfErr, IfOk};
 ghost use Rattle.vx_scheme.specs.Native.{Refused};
 ghost use Rattle.npm_range.specs.Reading.{Reads, IsWithinAll};
-ghost use Rattle.npm_range.specs.Refusals.{IsRefusedFor};
+ghost use Rattle.npm_range.specs.Refusals.{IsFirstSyntax, IsFirstNumeral, IsRefusedFor};
+ghost use Rattle.npm_range.specs.declared.construct.Construct.{Construct};
 
 use crate::construct::Constructs;
 use crate::pieces::cut_up;
@@ -27,3 +28,13 @@ pub(crate) fn read(alloc: Global, text: &str) -> Result<Constructs, RangeFault>
     let constructs = all_constructs(alloc, &all)?;
     Ok(constructs)
 }
+
+/// A text has one reading, or one first refusal, and none has both within the limits.
+pub(crate) fn one_answer()
+    ensures reads { (text : List ℕ) (a b : List (List Construct)) → Reads text a → Reads text b → a ≡ b }
+    ensures syntax { (text : List ℕ) (a b : ℕ) → IsFirstSyntax text a → IsFirstSyntax text b → a ≡ b }
+    ensures numeral { (text : List ℕ) (a b : ℕ) → IsFirstNumeral text a → IsFirstNumeral text b → a ≡ b }
+    ensures apart { (text : List ℕ) (a b : ℕ) → IsFirstSyntax text a → ¬ (IsFirstNumeral text b) }
+    ensures not_read { (text : List ℕ) (at : ℕ) (all : List (List Construct)) → IsFirstSyntax text at → ¬ (Reads text all) }
+    ensures not_within { (text : List ℕ) (at : ℕ) (all : List (List Construct)) → IsFirstNumeral text at → Reads text all → ¬ (IsWithinAll all) }
+{}

@@ -3,13 +3,13 @@ ghost use Rattle.std.specs.Option.{option_copied};
 ghost use Rattle.vx_spec.specs.Numerals.{is_numeral, value};
 ghost use Rattle.vx_spec.specs.Firsts.{IsFirst};
 ghost use Rattle.npm_scheme.specs.Version.{Fits, without_build};
-ghost use Rattle.npm_scheme.specs.Spelling.{HasForm as IsFormed, version_of};
+ghost use Rattle.npm_scheme.specs.Spelling.{HasForm, version_of};
 ghost use Rattle.npm_scheme.specs.Written.{parts};
 ghost use Rattle.npm_range.specs.Pieces.{AreEach, seen};
 ghost use Rattle.npm_range.specs.Partials.{values, partial_of, IsPartial, IsConstruct};
 ghost use Rattle.npm_range.specs.Refusals.{IsNoConstruct, IsPastNumeral, flat};
 ghost use Rattle.npm_range.specs.Reading.{PartialFits, ReadsWithin};
-ghost use Rattle.npm_range.specs.Forms.{HasForm, NonePast, AreReadable, AreReadableBehind, values_behind};
+ghost use Rattle.npm_range.specs.Forms.{HasPartialForm, NonePast, AreReadable, AreReadableBehind, values_behind};
 
 use crate::construct::{Construct, Constructs, Partial};
 use crate::partials::{is_any, is_short, operator_of, partial_text};
@@ -78,7 +78,7 @@ fn short_partial(alloc: Global, text: &str) -> Partial
 
 /// The version without its build.
 fn whole_partial(alloc: Global, written: &Written) -> Result<Partial, NoMemory>
-    requires form { IsFormed (parts written.now) }
+    requires form { HasForm (parts written.now) }
     requires within { Fits (version_of (parts written.now)) }
     ensures is { IfOk result (λ partial. partial ≡ Partial.Full (without_build (version_of (parts written.now)))) }
     ensures within { IfOk result PartialFits }
@@ -96,7 +96,7 @@ fn whole_partial(alloc: Global, written: &Written) -> Result<Partial, NoMemory>
 }
 
 fn partial_of(alloc: Global, text: &str) -> Result<Partial, NoMemory>
-    requires form { HasForm text.now }
+    requires form { HasPartialForm text.now }
     requires within { NonePast text.now }
     ensures is { IfOk result (IsPartial text.now) }
     ensures within { IfOk result PartialFits }
@@ -111,7 +111,7 @@ fn partial_of(alloc: Global, text: &str) -> Result<Partial, NoMemory>
 }
 
 fn partial(alloc: Global, text: &[u8]) -> Result<Partial, NoMemory>
-    requires form { HasForm text.now }
+    requires form { HasPartialForm text.now }
     requires within { NonePast text.now }
     ensures is { IfOk result (IsPartial text.now) }
     ensures within { IfOk result PartialFits }

@@ -1,4 +1,3 @@
-use Rattle.std.proofs.Common.{◌≡◌, ◌↔◌, rules}
 use Rattle.npm_range.proofs.PartialLaws.{construct_form}
 use Rattle.npm_range.proofs.partials.is_construct.Goals as goal
 

@@ -1,4 +1,3 @@
-use Rattle.std.proofs.Common.{◌≡◌}
 use Rattle.npm_range.proofs.PartialLaws.{form_utf8}
 use Rattle.npm_range.proofs.partials.is_partial.Goals as goal
 

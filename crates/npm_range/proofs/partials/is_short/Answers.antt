@@ -1,8 +1,8 @@
-use Rattle.std.proofs.Common.{◌≡◌, ◌+◌, arith, eqb, ltb, length, ℕ, refl, ◌∙◌, sym, ap, Bool, ◌&&◌, true, ◌<◌}
-use Rattle.std.specs.List.{count_by, slice_split, list_all}
+use Rattle.std.proofs.Common.{◌≡◌, ◌+◌, arith, eqb, ltb, ℕ, ◌∙◌, sym, true}
+use Rattle.std.specs.List.{count_by, list_all}
 use Rattle.std.proofs.lemmas.List.Splits.{length-slice_split}
 use Rattle.std.proofs.lemmas.Bool.Decides.{nat_tests}
-use Rattle.npm_range.specs.Partials.{is_short, is_number, numbers}
+use Rattle.npm_range.specs.Partials.{is_number, numbers}
 use Rattle.npm_range.proofs.partials.is_short.Goals as goal
 
 less_four : (n : ℕ) → ltb n 3 ≡ ltb (n + 1) 4

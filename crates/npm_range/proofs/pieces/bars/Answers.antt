@@ -1,5 +1,4 @@
-use Rattle.std.proofs.Common.{◌≡◌, ◌+◌, arith, length}
-use Rattle.npm_range.specs.Alternatives.{before_bars}
+use Rattle.std.proofs.Common.{arith}
 use Rattle.npm_range.proofs.BarLaws.{joined_found, first_found, two_within, none_found, before_most}
 use Rattle.npm_range.proofs.pieces.bars.Goals as goal
 

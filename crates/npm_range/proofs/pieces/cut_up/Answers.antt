@@ -1,7 +1,7 @@
-use Rattle.std.proofs.Common.{◌≡◌, ◌+◌, ◌++◌, ◌∷◌, append-nil, map, List, [], length, arith, Vec, Global}
+use Rattle.std.proofs.Common.{map, arith, Vec, Global}
 use Rattle.std.proofs.lemmas.List.{map_push}
 use Rattle.npm_range.specs.declared.pieces.Piece.{Piece}
-use Rattle.npm_range.specs.Pieces.{WrittenPiece, seen}
+use Rattle.npm_range.specs.Pieces.{seen}
 use Rattle.npm_range.proofs.CutLaws.{reads_step, reads_last}
 use Rattle.npm_range.proofs.pieces.cut_up.Goals as goal
 

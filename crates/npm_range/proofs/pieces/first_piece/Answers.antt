@@ -1,4 +1,4 @@
-use Rattle.std.proofs.Common.{◌≡◌, ◌<◌, length, rules}
+use Rattle.std.proofs.Common.{rules}
 use Rattle.npm_range.proofs.CutLaws.{piece_shorter}
 use Rattle.npm_range.proofs.pieces.first_piece.Goals as goal
 

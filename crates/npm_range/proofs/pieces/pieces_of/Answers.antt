@@ -1,5 +1,4 @@
-use Rattle.std.proofs.Common.{◌≡◌, ◌++◌, append-nil, map, List, []}
-use Rattle.npm_range.specs.Pieces.{ArePieces, seen}
+use Rattle.std.proofs.Common.{append-nil, []}
 use Rattle.npm_range.proofs.pieces.pieces_of.Goals as goal
 
 pub returns : goal.returns

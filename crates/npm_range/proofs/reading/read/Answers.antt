@@ -1,4 +1,4 @@
-use Rattle.std.proofs.Common.{◌≡◌, ◌<◌, ◌^◌, map, length, arith}
+use Rattle.std.proofs.Common.{◌<◌, ◌^◌, length, arith}
 use Rattle.npm_range.proofs.PlaceLaws.{reads_in_place}
 use Rattle.npm_range.proofs.ReadingLaws.{reads_within}
 use Rattle.npm_range.proofs.reading.read.Goals as goal

@@ -1,10 +1,9 @@
-use Rattle.std.proofs.Common.{◌≡◌, ◌+◌, ◌++◌, map, drop, List, Option, ℕ, Some, inr, refl, rules, Vec, Global, subst, sym}
+use Rattle.std.proofs.Common.{map, Vec, Global, subst, sym}
 use Rattle.std.specs.List.{AllByRecursion}
 use Rattle.std.proofs.lemmas.List.{drop_more}
 use Rattle.npm_range.specs.declared.pieces.Piece.{Piece}
-use Rattle.npm_range.specs.Pieces.{seen, WrittenPiece}
-use Rattle.vx_spec.specs.Firsts.{IsFirst}
-use Rattle.npm_range.specs.Refusals.{IsPastNumeral, flat}
+use Rattle.npm_range.specs.Pieces.{seen}
+use Rattle.npm_range.specs.Refusals.{IsPastNumeral}
 use Rattle.npm_range.specs.Forms.{IsInPlace}
 use Rattle.vx_spec.proofs.FirstLaws.{first_pass, first_stop}
 use Rattle.npm_range.proofs.PlaceLaws.{all_in_place_at}

@@ -1,9 +1,5 @@
-use Rattle.std.proofs.Common.{◌≡◌, ◌+◌, ◌++◌, map, drop, List, Option, ℕ, Some, inr, refl, rules, Vec, Global}
 use Rattle.std.proofs.lemmas.List.{drop_more}
-use Rattle.npm_range.specs.declared.pieces.Piece.{Piece}
-use Rattle.npm_range.specs.Pieces.{seen, WrittenPiece}
-use Rattle.vx_spec.specs.Firsts.{IsFirst}
-use Rattle.npm_range.specs.Refusals.{IsNoConstruct, flat}
+use Rattle.npm_range.specs.Refusals.{IsNoConstruct}
 use Rattle.vx_spec.proofs.FirstLaws.{first_pass, first_stop}
 use Rattle.npm_range.proofs.refusals.first_syntax.Goals as goal
 

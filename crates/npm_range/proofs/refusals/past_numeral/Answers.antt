@@ -1,4 +1,3 @@
-use Rattle.std.proofs.Common.{◌≡◌, ◌+◌, ◌-◌, arith, rules}
 use Rattle.npm_range.proofs.PlaceLaws.{past_none}
 use Rattle.npm_range.proofs.refusals.past_numeral.Goals as goal
 

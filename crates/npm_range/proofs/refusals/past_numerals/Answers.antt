@@ -1,10 +1,8 @@
-use Rattle.std.proofs.Common.{◌≡◌, ◌+◌, map, drop, List, [], Option, ℕ, Some, inl, inr, refl, rules, get_or}
+use Rattle.std.proofs.Common.{[], inl, inr, refl}
 use Rattle.std.proofs.lemmas.List.{drop_more}
 use Rattle.npm_range.specs.declared.pieces.Piece.{Piece}
 use Rattle.npm_range.specs.declared.pieces.Kind.TheVariants.{Plain}
 use Rattle.npm_range.specs.Pieces.{seen}
-use Rattle.vx_spec.specs.Firsts.{IsFirst}
-use Rattle.npm_range.specs.Refusals.{IsPastNumeral}
 use Rattle.npm_range.proofs.PlaceLaws.{in_place_at}
 use Rattle.npm_range.proofs.refusals.past_numerals.Goals as goal
 

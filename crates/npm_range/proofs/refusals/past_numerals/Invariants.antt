@@ -1,4 +1,4 @@
-use Rattle.std.proofs.Common.{◌≡◌, List, ℕ, Option, map, drop}
+use Rattle.std.proofs.Common.{ℕ, Option, map, drop}
 use Rattle.npm_range.specs.Pieces.{seen}
 use Rattle.vx_spec.specs.Firsts.{IsFirst}
 use Rattle.npm_range.specs.Refusals.{IsPastNumeral}

@@ -1,4 +1,4 @@
-use Rattle.std.proofs.Common.{◌≡◌, ◌+◌, arith, length, sym, ◌∙◌, ap, rules, Some, None, List, [], ℕ}
+use Rattle.std.proofs.Common.{arith, sym, ◌∙◌, ap, rules, []}
 use Rattle.npm_range.specs.Partials.{numbers}
 use Rattle.npm_range.specs.Refusals.{first_past}
 use Rattle.npm_range.specs.OnePartial.{split_none, split_some}

@@ -1,4 +1,4 @@
-use Rattle.std.proofs.Common.{◌≡◌, ◌+◌, arith, length}
+use Rattle.std.proofs.Common.{arith}
 use Rattle.std.specs.Option.{option_copied}
 use Rattle.npm_range.proofs.PastLaws.{whole_length}
 use Rattle.npm_range.proofs.refusals.past_text.Goals as goal

@@ -1,10 +1,9 @@
-use Rattle.std.proofs.Common.{◌≡◌, ◌++◌, ◌∷◌, map, drop, List, [], Option, ℕ, None, Vec, Global, subst, sym, append_assoc, append-nil}
+use Rattle.std.proofs.Common.{◌∷◌, map, [], None, Vec, Global, subst, sym, append_assoc, append-nil}
 use Rattle.std.proofs.lemmas.List.{drop_all, drop_more}
 use Rattle.vx_spec.specs.Firsts.{IsFirst}
 use Rattle.npm_range.specs.declared.pieces.Piece.{Piece}
-use Rattle.npm_range.specs.Pieces.{seen, AreEach}
-use Rattle.npm_range.specs.Refusals.{IsNoConstruct, IsPastNumeral, flat}
-use Rattle.npm_range.specs.Reading.{ReadsWithin}
+use Rattle.npm_range.specs.Pieces.{seen}
+use Rattle.npm_range.specs.Refusals.{IsNoConstruct, IsPastNumeral}
 use Rattle.npm_range.proofs.ValueLaws.{row_none_at}
 use Rattle.npm_range.proofs.values.all_constructs.Goals as goal
 

@@ -1,4 +1,3 @@
-use Rattle.std.proofs.Common.{◌≡◌, rules}
 use Rattle.npm_range.proofs.PartialLaws.{form_of}
 use Rattle.npm_range.proofs.values.construct.Goals as goal
 

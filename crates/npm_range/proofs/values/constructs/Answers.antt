@@ -1,10 +1,9 @@
-use Rattle.std.proofs.Common.{◌≡◌, ◌++◌, ◌∷◌, map, drop, List, [], refl, rules, get_or, append_assoc, append-nil}
+use Rattle.std.proofs.Common.{◌∷◌, [], append_assoc, append-nil}
 use Rattle.std.proofs.lemmas.List.{drop_all, drop_more}
 use Rattle.npm_range.specs.declared.pieces.Piece.{Piece}
 use Rattle.npm_range.specs.declared.pieces.Kind.TheVariants.{Plain}
-use Rattle.npm_range.specs.Pieces.{seen, AreEach}
+use Rattle.npm_range.specs.Pieces.{seen}
 use Rattle.npm_range.specs.Refusals.{IsNoConstruct, IsPastNumeral}
-use Rattle.npm_range.specs.Reading.{ReadsWithin}
 use Rattle.npm_range.proofs.ValueLaws.{none_at}
 use Rattle.npm_range.proofs.values.constructs.Goals as goal
 

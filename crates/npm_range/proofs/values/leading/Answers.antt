@@ -1,4 +1,4 @@
-use Rattle.std.proofs.Common.{◌≡◌, rules, sym}
+use Rattle.std.proofs.Common.{rules}
 use Rattle.npm_range.proofs.ValueLaws.{first_numeral, first_within, first_value, rest_readable}
 use Rattle.npm_range.proofs.values.leading.Goals as goal
 

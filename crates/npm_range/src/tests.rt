@@ -1,0 +1,94 @@
+use crate::construct::{Operator, Partial};
+use crate::reading::read;
+use std::alloc::Global;
+use std::test::Fail;
+use vx_scheme::RangeFault;
+
+/// How many alternatives a text has.
+fn alternatives(alloc: Global, text: &str) -> Result<usize, RangeFault> {
+    match read(alloc, text) {
+        Ok(all) => Ok(all.len()),
+        Err(fault) => Err(fault),
+    }
+}
+
+/// The operator, the place and the numbers of the first construct.
+fn first(alloc: Global, text: &str) -> Option<(Operator, usize, u8, u128)> {
+    let Ok(all) = read(alloc, text) else {
+        return None;
+    };
+    let Some(constructs) = all.as_slice().first() else {
+        return None;
+    };
+    let Some(construct) = constructs.as_slice().first() else {
+        return None;
+    };
+    let (count, last) = match &construct.partial {
+        Partial::Any => (0, 0),
+        Partial::Major(major) => (1, *major),
+        Partial::Minor(_, minor) => (2, *minor),
+        Partial::Full(version) => (3, version.patch),
+    };
+    Some((construct.operator, construct.at, count, last))
+}
+
+#[test]
+fn texts_are_read(rt: HostRuntime) -> Result<(), Fail> {
+    let alloc = rt.alloc();
+    assert_eq!(rt; alternatives(alloc, ">=1.2.3 <2 || ^0.1"), Ok(2));
+    assert_eq!(rt; alternatives(alloc, ""), Ok(1));
+    assert_eq!(rt; alternatives(alloc, "||||"), Ok(3));
+    assert_eq!(rt; alternatives(alloc, "=1 - =2.x"), Ok(1));
+    assert_eq!(rt; alternatives(alloc, "~> v1.2.x >=  *"), Ok(1));
+    assert_eq!(rt; alternatives(alloc, "1.x.3"), Ok(1));
+    assert_eq!(rt;
+        alternatives(alloc, "1.x.340282366920938463463374607431768211456"),
+        Ok(1)
+    );
+    assert_eq!(rt;
+        alternatives(alloc, "1.2.3+340282366920938463463374607431768211456"),
+        Ok(1)
+    );
+    assert_eq!(rt; first(alloc, " ~> v1.2"), Some((Operator::Tilde, 1, 2, 2)));
+    assert_eq!(rt;
+        first(alloc, "1.2.3-a - 2"),
+        Some((Operator::GreaterEqual, 0, 3, 3))
+    );
+    assert_eq!(rt; first(alloc, "<7.X.1"), Some((Operator::Less, 0, 1, 7)));
+    assert_eq!(rt; first(alloc, "*"), Some((Operator::Equal, 0, 0, 0)));
+    Ok(())
+}
+
+#[test]
+fn the_first_refusal_is_named(rt: HostRuntime) -> Result<(), Fail> {
+    let alloc = rt.alloc();
+    assert_eq!(rt; alternatives(alloc, "1|||2"), Err(RangeFault::Syntax(3)));
+    assert_eq!(rt; alternatives(alloc, ">1 - 2"), Err(RangeFault::Syntax(0)));
+    assert_eq!(rt; alternatives(alloc, "==1 - 2"), Err(RangeFault::Syntax(0)));
+    assert_eq!(rt;
+        alternatives(alloc, " 1 - =x.y"),
+        Err(RangeFault::Syntax(5))
+    );
+    assert_eq!(rt; alternatives(alloc, "1 - 2 3"), Err(RangeFault::Syntax(2)));
+    assert_eq!(rt; alternatives(alloc, "  >= "), Err(RangeFault::Syntax(2)));
+    assert_eq!(rt;
+        alternatives(alloc, "1 || 2 foo"),
+        Err(RangeFault::Syntax(7))
+    );
+    assert_eq!(rt; alternatives(alloc, "vv1"), Err(RangeFault::Syntax(0)));
+    assert_eq!(rt; alternatives(alloc, "1.2-a"), Err(RangeFault::Syntax(0)));
+    assert_eq!(rt; alternatives(alloc, "1.x.05"), Err(RangeFault::Syntax(0)));
+    assert_eq!(rt;
+        alternatives(alloc, "340282366920938463463374607431768211456 foo"),
+        Err(RangeFault::Syntax(40))
+    );
+    assert_eq!(rt;
+        alternatives(alloc, "1 || >=1.340282366920938463463374607431768211456.x"),
+        Err(RangeFault::Numeral(9))
+    );
+    assert_eq!(rt;
+        alternatives(alloc, "v1.2.3-a.340282366920938463463374607431768211456+1"),
+        Err(RangeFault::Numeral(9))
+    );
+    Ok(())
+}
