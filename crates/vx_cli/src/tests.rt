@@ -39,45 +39,263 @@ fn the_line_is_answered_and_a_full_sink_is_a_write_fault(rt: HostRuntime) -> Res
     Ok(())
 }
 
+// The answer to a translation of npm, without its line feed.
+fn answer_to(alloc: Global, domain: &str, range: &str) -> Option<Vec<u8>> {
+    let mut words = Vec::new(alloc);
+    for word in ["to-vers", "npm", domain, range] {
+        words.push(String::from_str(alloc, word).ok()?).ok()?;
+    }
+    let mut source = PlainSource::new(Vec::new(alloc));
+    let mut sink = MemorySink::with_room(alloc, 200, Vec::new(alloc)).ok()?;
+    let _status = run(alloc, &words, &mut source, &mut sink);
+    let mut answer = Vec::from_slice(alloc, sink.bytes()).ok()?;
+    answer.pop();
+    Some(answer)
+}
+
 #[test]
-fn ranges_are_translated(rt: HostRuntime) -> Result<(), Fail> {
+fn ranges_of_one_construct_are_translated(rt: HostRuntime) {
+    for (domain, range, text) in [
+        ("all", "1.2.3", "ok\tvers:npm/1.2.3"),
+        ("all", "=1.2.3", "ok\tvers:npm/1.2.3"),
+        ("all", "= 1.2.3", "ok\tvers:npm/1.2.3"),
+        ("all", "v1.2.3", "ok\tvers:npm/1.2.3"),
+        ("all", ">v1.2.3", "ok\tvers:npm/>1.2.3"),
+        ("all", "1.2", "ok\tvers:npm/>=1.2.0|<1.3.0-0"),
+        ("all", "1", "ok\tvers:npm/>=1.0.0|<2.0.0-0"),
+        ("all", "1.x", "ok\tvers:npm/>=1.0.0|<2.0.0-0"),
+        ("all", "1.2.*", "ok\tvers:npm/>=1.2.0|<1.3.0-0"),
+        ("all", "1.2.X", "ok\tvers:npm/>=1.2.0|<1.3.0-0"),
+        ("all", "1.x.3", "ok\tvers:npm/>=1.0.0|<2.0.0-0"),
+        ("all", "*", "ok\tvers:npm/*"),
+        ("all", "x", "ok\tvers:npm/*"),
+        ("all", "X.1", "ok\tvers:npm/*"),
+        ("all", ">1.2.3", "ok\tvers:npm/>1.2.3"),
+        ("all", ">1.2", "ok\tvers:npm/>=1.3.0"),
+        ("all", ">1", "ok\tvers:npm/>=2.0.0"),
+        ("all", ">*", "no\t10 Empty\t-"),
+        ("all", ">=1.2.3", "ok\tvers:npm/>=1.2.3"),
+        ("all", ">=1.2", "ok\tvers:npm/>=1.2.0"),
+        ("all", ">=1", "ok\tvers:npm/>=1.0.0"),
+        ("all", ">=*", "ok\tvers:npm/*"),
+        ("all", "<1.2.3", "ok\tvers:npm/<1.2.3"),
+        ("all", "<1.2", "ok\tvers:npm/<1.2.0-0"),
+        ("all", "<1", "ok\tvers:npm/<1.0.0-0"),
+        ("all", "<x", "no\t10 Empty\t-"),
+        ("all", "<=1.2.3", "ok\tvers:npm/<=1.2.3"),
+        ("all", "<=1.2", "ok\tvers:npm/<1.3.0-0"),
+        ("all", "<=1", "ok\tvers:npm/<2.0.0-0"),
+        ("all", "<=X", "ok\tvers:npm/*"),
+        ("all", "~1.2.3", "ok\tvers:npm/>=1.2.3|<1.3.0-0"),
+        ("all", "~1.2", "ok\tvers:npm/>=1.2.0|<1.3.0-0"),
+        ("all", "~1", "ok\tvers:npm/>=1.0.0|<2.0.0-0"),
+        ("all", "~>1.2.3", "ok\tvers:npm/>=1.2.3|<1.3.0-0"),
+        ("all", "~*", "ok\tvers:npm/*"),
+        ("all", "^1.2.3", "ok\tvers:npm/>=1.2.3|<2.0.0-0"),
+        ("all", "^0.2.3", "ok\tvers:npm/>=0.2.3|<0.3.0-0"),
+        ("all", "^0.0.3", "ok\tvers:npm/>=0.0.3|<0.0.4-0"),
+        ("all", "^0.0.0", "ok\tvers:npm/>=0.0.0|<0.0.1-0"),
+        ("all", "^1.2", "ok\tvers:npm/>=1.2.0|<2.0.0-0"),
+        ("all", "^0.1", "ok\tvers:npm/>=0.1.0|<0.2.0-0"),
+        ("all", "^0.0", "ok\tvers:npm/>=0.0.0|<0.1.0-0"),
+        ("all", "^0", "ok\tvers:npm/>=0.0.0|<1.0.0-0"),
+        ("all", "^1", "ok\tvers:npm/>=1.0.0|<2.0.0-0"),
+        ("all", "^x", "ok\tvers:npm/*"),
+        (
+            "all",
+            "^1.2.3-beta.2",
+            "ok\tvers:npm/>=1.2.3-beta.2|<2.0.0-0",
+        ),
+        (
+            "all",
+            "~1.2.3-beta.2",
+            "ok\tvers:npm/>=1.2.3-beta.2|<1.3.0-0",
+        ),
+        ("all", "1.2.3-4", "ok\tvers:npm/1.2.3-4"),
+        ("all", "1.2.3+build.5", "ok\tvers:npm/1.2.3"),
+        ("all", "^1.2.3+b", "ok\tvers:npm/>=1.2.3|<2.0.0-0"),
+    ] {
+        let answer = answer_to(rt.alloc(), domain, range);
+        assert!(rt; answer.is_some());
+        if let Some(answer) = answer {
+            assert_eq!(rt; answer.as_slice(), text.as_bytes(), "at {domain} {range}");
+        }
+    }
+}
+
+#[test]
+fn ranges_of_several_constructs_are_translated(rt: HostRuntime) {
+    for (domain, range, text) in [
+        ("all", ">=1.2.3 <2.0.0", "ok\tvers:npm/>=1.2.3|<2.0.0"),
+        (
+            "all",
+            "^0.0.3 || 1.x",
+            "ok\tvers:npm/>=0.0.3|<0.0.4-0|>=1.0.0|<2.0.0-0",
+        ),
+        (
+            "-",
+            "^18.2.0 || ^19.0.0",
+            "ok\tvers:npm/>=18.2.0|<19.0.0-0|>=19.0.0|<20.0.0-0",
+        ),
+        ("all", "", "ok\tvers:npm/*"),
+        ("all", "   ", "ok\tvers:npm/*"),
+        ("all", ">2 <1", "no\t10 Empty\t-"),
+        ("-", ">1 <=2.1", "ok\tvers:npm/>=2.0.0|<2.2.0-0"),
+        ("all", "1.2 - 2.3", "ok\tvers:npm/>=1.2.0|<2.4.0-0"),
+        ("all", "1.2.3 - 2.3.4", "ok\tvers:npm/>=1.2.3|<=2.3.4"),
+        ("all", "1.2.3 - 2", "ok\tvers:npm/>=1.2.3|<3.0.0-0"),
+        ("all", " =1.2.3 - v2.0.0 ", "ok\tvers:npm/>=1.2.3|<=2.0.0"),
+        ("all", "* - 2", "ok\tvers:npm/<3.0.0-0"),
+        ("all", "||", "ok\tvers:npm/*"),
+        ("all", "1.2.3 ||", "ok\tvers:npm/*"),
+        ("all", "1.0.0||2.0.0", "ok\tvers:npm/1.0.0|2.0.0"),
+        (
+            "all",
+            "1 || 2",
+            "ok\tvers:npm/>=1.0.0|<2.0.0-0|>=2.0.0|<3.0.0-0",
+        ),
+        ("all", "<1 || >=2", "ok\tvers:npm/<1.0.0-0|>=2.0.0"),
+        ("all", "<2.0.0 || >2.0.0", "ok\tvers:npm/!=2.0.0"),
+        ("all", "<=2.0.0 || >2.0.0", "ok\tvers:npm/*"),
+        ("all", ">=1.0.0 <=1.0.0", "ok\tvers:npm/1.0.0"),
+        ("all", ">=1.0.0 <1.0.0", "no\t10 Empty\t-"),
+        ("all", ">1.0.0 <1.0.1-0", "ok\tvers:npm/>1.0.0|<1.0.1-0"),
+        (
+            "all",
+            "  >=   1.2.3   <  2.0.0  ",
+            "ok\tvers:npm/>=1.2.3|<2.0.0",
+        ),
+        ("all", ">=1.2.3\t<2.0.0", "ok\tvers:npm/>=1.2.3|<2.0.0"),
+        ("all", ">1.0.0 >2.0.0", "ok\tvers:npm/>2.0.0"),
+        ("all", ">=1 <3 || >=2 <4", "ok\tvers:npm/>=1.0.0|<4.0.0-0"),
+        ("all", "1.0.0 1.0.0+b", "ok\tvers:npm/1.0.0"),
+        ("all", "1.0.0 2.0.0", "no\t10 Empty\t-"),
+        (
+            "releases",
+            "^18.2.0 || ^19.0.0",
+            "ok\tvers:npm/>=18.2.0|<20.0.0",
+        ),
+        ("releases", "1.2 - 2.3", "ok\tvers:npm/>=1.2.0|<2.4.0"),
+        ("releases", "^1.2.3", "ok\tvers:npm/>=1.2.3|<2.0.0"),
+        ("releases", "<=1", "ok\tvers:npm/<2.0.0"),
+        ("releases", ">1.0.0-rc.1", "ok\tvers:npm/>1.0.0-rc.1"),
+        ("releases", "1.2.x || 1.3.x", "ok\tvers:npm/>=1.2.0|<1.4.0"),
+        (
+            "releases",
+            "~1.2.3-beta <1.3.0-0",
+            "ok\tvers:npm/>=1.2.3-beta|<1.3.0-0",
+        ),
+    ] {
+        let answer = answer_to(rt.alloc(), domain, range);
+        assert!(rt; answer.is_some());
+        if let Some(answer) = answer {
+            assert_eq!(rt; answer.as_slice(), text.as_bytes(), "at {domain} {range}");
+        }
+    }
+}
+
+#[test]
+fn ranges_are_refused_where_they_stand(rt: HostRuntime) {
+    for (domain, range, text) in [
+        ("all", ">=1.2.3 <foo", "no\t7 Syntax\t8"),
+        ("all", "1 -2", "no\t7 Syntax\t2"),
+        ("all", "1- 2", "no\t7 Syntax\t0"),
+        ("all", "1 - 2 - 3", "no\t7 Syntax\t2"),
+        ("all", ">1 - 2", "no\t7 Syntax\t0"),
+        ("all", " 1 - =x.y", "no\t7 Syntax\t5"),
+        ("all", "1|||2", "no\t7 Syntax\t3"),
+        ("all", "1|2", "no\t7 Syntax\t0"),
+        ("all", ">=1 !2", "no\t7 Syntax\t4"),
+        ("all", ">=", "no\t7 Syntax\t0"),
+        ("all", "  >=  ", "no\t7 Syntax\t2"),
+        ("all", ">>1", "no\t7 Syntax\t0"),
+        ("all", "=>1", "no\t7 Syntax\t0"),
+        ("all", "~=1", "no\t7 Syntax\t0"),
+        ("all", "01.2.3", "no\t7 Syntax\t0"),
+        ("all", "1.02", "no\t7 Syntax\t0"),
+        ("all", "1.2.3.4", "no\t7 Syntax\t0"),
+        ("all", "1.x.foo", "no\t7 Syntax\t0"),
+        ("all", "1.x.05", "no\t7 Syntax\t0"),
+        ("all", "vv1", "no\t7 Syntax\t0"),
+        ("all", "1.2-a", "no\t7 Syntax\t0"),
+        ("all", "v 1.2.3", "no\t7 Syntax\t0"),
+        (
+            "all",
+            "^340282366920938463463374607431768211455.0.0",
+            "no\t8 Numeral\t0",
+        ),
+        (
+            "all",
+            "^340282366920938463463374607431768211456.0.0",
+            "no\t8 Numeral\t1",
+        ),
+        (
+            "all",
+            "1.x.340282366920938463463374607431768211456",
+            "ok\tvers:npm/>=1.0.0|<2.0.0-0",
+        ),
+        (
+            "all",
+            ">=1.2.3 340282366920938463463374607431768211456",
+            "no\t8 Numeral\t8",
+        ),
+        (
+            "all",
+            "1.0.0 || >340282366920938463463374607431768211455",
+            "no\t8 Numeral\t9",
+        ),
+        (
+            "all",
+            ">=340282366920938463463374607431768211455",
+            "ok\tvers:npm/>=340282366920938463463374607431768211455.0.0",
+        ),
+        (
+            "all",
+            "1.2.3-a.340282366920938463463374607431768211456+1",
+            "no\t8 Numeral\t8",
+        ),
+        (
+            "all",
+            "1.2.3+340282366920938463463374607431768211456",
+            "ok\tvers:npm/1.2.3",
+        ),
+        (
+            "all",
+            "340282366920938463463374607431768211456 foo",
+            "no\t7 Syntax\t40",
+        ),
+    ] {
+        let answer = answer_to(rt.alloc(), domain, range);
+        assert!(rt; answer.is_some());
+        if let Some(answer) = answer {
+            assert_eq!(rt; answer.as_slice(), text.as_bytes(), "at {domain} {range}");
+        }
+    }
+}
+
+#[test]
+fn lines_are_answered_by_their_fields(rt: HostRuntime) -> Result<(), Fail> {
     let alloc = rt.alloc();
     for (line, status, text) in [
+        ("to-vers,foo,bar,1", Status::Refused, "no\t4 BadScheme\t-\n"),
+        ("to-vers,npm,bar,1", Status::Refused, "no\t5 BadDomain\t-\n"),
         (
-            "to-vers,npm,all,>=1.0.0 <=1.0.0",
-            Status::Done,
-            "ok\tvers:npm/1.0.0\n",
-        ),
-        (
-            "to-vers,npm,all,>=1.0.0 <1.0.0",
+            "to-vers,pypi,bar,>1",
             Status::Refused,
-            "no\t10 Empty\t-\n",
+            "no\t5 BadDomain\t-\n",
         ),
+        ("to-vers,pypi,-,>1", Status::Refused, "no\t0 NotBuilt\t-\n"),
         (
-            "to-vers,npm,all,^1.2.3",
+            "to-vers,cargo,all,>1",
             Status::Refused,
             "no\t0 NotBuilt\t-\n",
         ),
         (
-            "to-vers,npm,releases,>=1.0.0 <2.0.0",
-            Status::Refused,
-            "no\t0 NotBuilt\t-\n",
-        ),
-        (
-            "to-vers,npm,all,>1.0.0-rc.1 \t <=2.0.0-0.x",
+            "to-vers,npm,-,^1.2.3",
             Status::Done,
-            "ok\tvers:npm/>1.0.0-rc.1|<=2.0.0-0.x\n",
+            "ok\tvers:npm/>=1.2.3|<2.0.0-0\n",
         ),
-        (
-            "to-vers,npm,all,>=340282366920938463463374607431768211455.0.0 <=340282366920938463463374607431768211455.1.0",
-            Status::Done,
-            "ok\tvers:npm/>=340282366920938463463374607431768211455.0.0|<=340282366920938463463374607431768211455.1.0\n",
-        ),
-        (
-            "to-vers,npm,all,>=1.0.0 <340282366920938463463374607431768211456.0.0",
-            Status::Refused,
-            "no\t0 NotBuilt\t-\n",
-        ),
+        ("canon,vers:npm/*", Status::Refused, "no\t0 NotBuilt\t-\n"),
     ] {
         let words = words_of(alloc, line)?;
         let mut source = PlainSource::new(Vec::new(alloc));
@@ -90,6 +308,40 @@ fn ranges_are_translated(rt: HostRuntime) -> Result<(), Fail> {
                 "at {line}"
             );
             assert_eq!(rt; sink.bytes(), text.as_bytes(), "at {line}");
+        }
+    }
+    Ok(())
+}
+
+// A text of the same byte many times, between two others.
+fn long_text(
+    alloc: Global,
+    front: &str,
+    byte: char,
+    count: usize,
+    end: &str,
+) -> Result<String, AllocError> {
+    let mut text = String::from_str(alloc, front)?;
+    for _ in 0..count {
+        text.push(byte)?;
+    }
+    text.push_str(end)?;
+    Ok(text)
+}
+
+#[test]
+fn long_lines_are_answered(rt: HostRuntime) -> Result<(), Fail> {
+    let alloc = rt.alloc();
+    for (front, byte, count, end, answer) in [
+        (">=", '9', 60_000, ".0.0", "no\t8 Numeral\t2"),
+        ("", ' ', 65_520, "", "ok\tvers:npm/*"),
+        ("", ' ', 65_521, "", "no\t1 LineTooLong\t-"),
+    ] {
+        let range = long_text(alloc, front, byte, count, end)?;
+        let found = answer_to(alloc, "all", range.as_str());
+        assert!(rt; found.is_some());
+        if let Some(found) = found {
+            assert_eq!(rt; found.as_slice(), answer.as_bytes());
         }
     }
     Ok(())

@@ -32,9 +32,9 @@ module _ {V : Type 0} {order : V → V → Ordering} (total : IsTotalOrder order
     sorted = listed_in_order total _ (cuts_of t.spans) t.joined.in_order.rising;
     printed = t.printed;
     same = λ v is within.
-      let said = joined_say domain text t.bounds t.spans t.made t.joined v is within in
-      let means = list_means total t.spans v t.joined.in_order t.some in
-      (λ inside. means ∙ said.0 inside, λ held. said.1 (sym means ∙ held));
+        let said = joined_say domain text t.bounds t.spans t.made t.joined v is within in
+        let means = list_means total t.spans v t.joined.in_order t.some in
+        (λ inside. means ∙ said.0 inside, λ held. said.1 (sym means ∙ held));
   }
 
   -- an empty range holds no version of the domain

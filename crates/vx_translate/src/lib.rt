@@ -4,6 +4,8 @@
 mod domains;
 mod forward;
 mod refusal;
+#[cfg(test)]
+mod tests;
 mod translating;
 
 pub use domains::default_domain;

@@ -9,12 +9,7 @@ use vx_scheme::{Domain, SchemeName, Text};
 
 /// The VERS text of a range text of the named scheme, in a domain. `NotBuilt` comes exactly for the schemes other than
 /// npm; the other refusals are those of the first that stands in the text.
-pub fn to_vers(
-    alloc: Global,
-    name: SchemeName,
-    domain: Domain,
-    text: &str,
-) -> Result<Text, Refusal>
+pub fn to_vers(alloc: Global, name: SchemeName, domain: Domain, text: &str) -> Result<Text, Refusal>
     ensures ok { IfOk result (IsTranslated name domain text.now) }
     ensures members { IfOk result (IsSameRange name domain text.now) }
     ensures err { IfErr result (IsRefused name domain text.now) }

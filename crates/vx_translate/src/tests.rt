@@ -1,0 +1,139 @@
+ghost use Rattle.std.specs.Prelude.{◌≡◌, ◌<◌};
+
+use crate::{Refusal, default_domain, to_vers};
+use npm_range::NpmRange;
+use npm_scheme::NpmVersion;
+use std::alloc::Global;
+use std::marker::Brand;
+use std::sync::ledger::{Blank, Ledger};
+use std::test::Fail;
+use vx_interval::{Counted, Cuts, Set, Steps, merge};
+use vx_scheme::{
+    Alternative, Bounds, Cut, Domain, NoMemory, Scheme, SchemeName, Span, Spans, Text, VersionFault,
+};
+
+// The cut before a version.
+fn cut(alloc: Global, text: &str) -> Result<Cut<NpmVersion>, VersionFault> {
+    let version = NpmRange::read(alloc, text)?;
+    Ok(Cut {
+        version,
+        after: false,
+        mark: 0,
+    })
+}
+
+// The set from before one version to before another.
+fn between(alloc: Global, low: &str, high: &str) -> Result<Set<NpmRange>, VersionFault> {
+    let lower = cut(alloc, low)?;
+    let upper = cut(alloc, high)?;
+    let mut spans = Spans::new(alloc);
+    spans.push(Span {
+        lower: Some(lower),
+        upper: Some(upper),
+    })?;
+    let mut terms = Alternative::new(alloc);
+    terms.push(spans)?;
+    let mut bounds = Bounds::new(alloc);
+    bounds.push(terms)?;
+    let set = Set::<NpmRange>::from_bounds(alloc, bounds)?;
+    Ok(set)
+}
+
+// The version of a cut.
+fn text_of(alloc: Global, cut: &Option<Cut<NpmVersion>>) -> Result<Text, NoMemory> {
+    let mut text = Text::new(alloc);
+    if let Some(cut) = cut {
+        NpmRange::write(&cut.version, &mut text)?;
+    }
+    Ok(text)
+}
+
+#[test]
+fn a_set_and_its_complement_are_every_version(rt: HostRuntime) -> Result<(), Fail> {
+    let alloc = rt.alloc();
+    let other = between(alloc, "1.0.0", "2.0.0")?.complement()?;
+    let spans = other.intersect(Set::every(alloc)?)?.into_spans()?;
+    assert_eq!(rt; spans.len(), 2);
+    if let [first, second] = spans.as_slice() {
+        assert!(rt; first.lower.is_none());
+        assert_eq!(rt; text_of(alloc, &first.upper)?.as_str(), "1.0.0");
+        assert_eq!(rt; text_of(alloc, &second.lower)?.as_str(), "2.0.0");
+        assert!(rt; second.upper.is_none());
+    }
+    let set = between(alloc, "1.0.0", "2.0.0")?;
+    let other = between(alloc, "1.0.0", "2.0.0")?.complement()?;
+    let spans = set.union(other)?.into_spans()?;
+    assert_eq!(rt; spans.len(), 1);
+    if let [whole] = spans.as_slice() {
+        assert!(rt; whole.lower.is_none());
+        assert!(rt; whole.upper.is_none());
+    }
+    Ok(())
+}
+
+// The merged cuts of two sets.
+fn merged<L: Ledger>(
+    blank: Blank,
+    alloc: Global,
+    both: bool,
+    a: Set<NpmRange>,
+    b: Set<NpmRange>,
+) -> Result<Cuts<NpmVersion>, NoMemory>
+    requires name { blank.name ≡ L.name }
+    requires parts { blank.parts ≡ L.parts }
+    requires some { 0 < blank.parts }
+{
+    let mut steps = Steps::<L>::start(blank);
+    let a_starts = a.starts_in();
+    let b_starts = b.starts_in();
+    merge::<Counted<NpmRange>, L>(
+        alloc,
+        both,
+        a_starts,
+        a.into_cuts(),
+        b_starts,
+        b.into_cuts(),
+        &mut steps,
+    )
+}
+
+#[test]
+fn two_sets_apart_are_merged(rt: HostRuntime) -> Result<(), Fail> {
+    let alloc = rt.alloc();
+    let a = between(alloc, "1.0.0", "2.0.0")?;
+    let b = between(alloc, "3.0.0", "4.0.0")?;
+    let cuts = merged::<Brand>(Blank::new(1), alloc, false, a, b)?;
+    assert_eq!(rt; cuts.len(), 4);
+    let a = between(alloc, "1.0.0", "2.0.0")?;
+    let b = between(alloc, "3.0.0", "4.0.0")?;
+    let cuts = merged::<Brand>(Blank::new(2), alloc, true, a, b)?;
+    assert_eq!(rt; cuts.len(), 0);
+    Ok(())
+}
+
+#[test]
+fn ranges_are_translated_by_the_name(rt: HostRuntime) {
+    let alloc = rt.alloc();
+    let made = to_vers(alloc, SchemeName::Npm, Domain::All, "^1.2.3");
+    assert!(rt; made.is_ok());
+    if let Ok(text) = made {
+        assert_eq!(rt; text.as_str(), "vers:npm/>=1.2.3|<2.0.0-0");
+    }
+    for (name, domain, text, refusal) in [
+        (SchemeName::Npm, Domain::All, ">2 <1", Refusal::Empty),
+        (
+            SchemeName::Npm,
+            Domain::Releases,
+            "1 foo",
+            Refusal::Syntax(2),
+        ),
+        (SchemeName::Deb, Domain::All, ">= 1", Refusal::NotBuilt),
+    ] {
+        match to_vers(alloc, name, domain, text) {
+            Ok(_) => assert!(rt; false),
+            Err(found) => assert_eq!(rt; found, refusal),
+        }
+    }
+    assert_eq!(rt; default_domain(SchemeName::Npm), Domain::All);
+    assert_eq!(rt; default_domain(SchemeName::Pypi), Domain::Releases);
+}
