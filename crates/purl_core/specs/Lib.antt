@@ -1,4 +1,5 @@
 pub mod Cuts
+pub mod Cutting
 pub mod Grammar
 pub mod Places
 pub mod Printed

@@ -1,8 +1,13 @@
 //! Package URLs: values, reading and writing.
 #![tactic(auto)]
 
+mod cutting;
 mod fault;
+mod reading;
 mod value;
+mod writing;
 
 pub use fault::PurlFault;
+pub use reading::{one_purl, spelled_is_valid};
 pub use value::{Pair, Pairs, Purl, Segments};
+pub use writing::printed_spells;
