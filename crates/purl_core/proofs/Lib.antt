@@ -1,5 +1,6 @@
 pub mod Ascending
 pub mod Cuts
+pub mod Joined
 pub mod Lacking
 pub mod OneValue
 pub mod PartLaws

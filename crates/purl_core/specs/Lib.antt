@@ -6,3 +6,4 @@ pub mod Printed
 pub mod Reading
 pub mod Spelling
 pub mod Value
+pub mod Written

@@ -10,4 +10,4 @@ mod writing;
 pub use fault::PurlFault;
 pub use reading::{one_purl, spelled_is_valid};
 pub use value::{Pair, Pairs, Purl, Segments};
-pub use writing::printed_spells;
+pub use writing::{printed_spells, write};
