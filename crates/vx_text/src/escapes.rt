@@ -82,8 +82,8 @@ fn is_broken(bytes: &[u8], at: usize) -> bool
     bytes[at] == b'%' && !is_followed(bytes, at)
 }
 
-/// Where the first `%` stands that two hexadecimal digits do not follow.
-fn first_broken(bytes: &[u8]) -> Option<usize>
+/// Where the first `%` stands that two hexadecimal digits do not follow. It takes no memory.
+pub fn first_broken(bytes: &[u8]) -> Option<usize>
     ensures some { IfSome result (λ at. IsFirstBroken bytes.now at) }
     ensures none { IfNone result (IsWhole bytes.now) }
 {

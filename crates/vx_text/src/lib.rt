@@ -8,7 +8,7 @@ mod marks;
 mod numerals;
 
 pub use cutting::{Piece, Pieces, pieces};
-pub use escapes::{EscapeFault, escape, escapes_are_undone, round_trip, unescape};
+pub use escapes::{EscapeFault, escape, escapes_are_undone, first_broken, round_trip, unescape};
 pub use folding::{lower, same_folded};
 pub use marks::{cut, parts};
 pub use numerals::{NumeralFault, is_numeral, numeral};
