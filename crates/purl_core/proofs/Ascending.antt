@@ -43,3 +43,10 @@ pub ascending_pop : (r : Option Pair) (old new : List Pair) → MatchOption r ((
 ascending_pop None old new is up = rw (is.1) tt
 ascending_pop (Some last) old new is up =
     ascending_front (map pair_view new) (pair_view last ∷ []) (subst Ascending (ap (map pair_view) is ∙ map-append pair_view new (last ∷ [])) up)
+
+-- a key behind ascending pairs is above the last of them
+pub above_seam : (xs : List (List ℕ × List ℕ)) (x : List ℕ × List ℕ) (ys : List (List ℕ × List ℕ)) → Ascending (xs ++ x ∷ ys) → IsAboveLast xs x.0
+above_seam xs x ys up front last e = go front (subst (λ (l : List (List ℕ × List ℕ)). Ascending (l ++ x ∷ ys)) e up) where
+  go : (front : List (List ℕ × List ℕ)) → Ascending ((front ++ last ∷ []) ++ x ∷ ys) → slice_cmp nat_cmp last.0 x.0 ≡ Less
+  go [] up = up.0.0
+  go (f ∷ front) up = go front up.1

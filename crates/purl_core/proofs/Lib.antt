@@ -4,6 +4,10 @@ pub mod Joined
 pub mod Lacking
 pub mod OneValue
 pub mod PartLaws
+pub mod Pieces
 pub mod Printed
+pub mod Put
 pub mod Refused
+pub mod SoFar
+pub mod Splits
 pub mod Valid

@@ -1,7 +1,9 @@
 pub mod Cuts
 pub mod Cutting
 pub mod Grammar
+pub mod Pairing
 pub mod Places
+pub mod Placing
 pub mod Printed
 pub mod Reading
 pub mod Spelling

@@ -1,7 +1,6 @@
 -- Where the parts of a text stand, and where the first of them is refused.
 use Rattle.std.specs.Prelude.{◌≡◌, ◌==◌, ◌+◌, ◌⊎◌, ◌++◌, ℕ, if◌then◌else◌, List, [], ◌∷◌, length, map, Option, Some, None, ⊤, IsUtf8}
 use Rattle.std.specs.List.{AllByRecursion, slice_split}
-use Rattle.vx_spec.specs.Marks.{marked}
 use Rattle.vx_text.specs.Escapes.{IsWhole, IsFirstBroken, unescaped}
 use Rattle.vx_text.specs.Folding.{lowered}
 use Rattle.purl_core.specs.Grammar.{Parts}
@@ -33,6 +32,11 @@ abbrev pub values : List (ℕ × List ℕ) → List (ℕ × List ℕ)
 values [] = []
 values (piece ∷ pieces) = value_in piece.0 piece.1 ++ values pieces
 
+-- how many bytes a part takes with the sign before it, where there is one
+abbrev pub with_sign : Option (List ℕ) → ℕ
+with_sign None = 0
+with_sign (Some part) = length part + 1
+
 -- ---- where the parts of a written text begin
 
 abbrev pub path_at : Parts → ℕ
@@ -42,10 +46,10 @@ abbrev pub version_at : Parts → ℕ
 version_at p = path_at p + length p.path + 1
 
 abbrev pub qualifiers_at : Parts → ℕ
-qualifiers_at p = path_at p + length p.path + length (marked 64 p.version) + 1
+qualifiers_at p = path_at p + length p.path + with_sign p.version + 1
 
 abbrev pub subpath_at : Parts → ℕ
-subpath_at p = path_at p + length p.path + length (marked 64 p.version) + length (marked 63 p.qualifiers) + 1
+subpath_at p = path_at p + length p.path + with_sign p.version + with_sign p.qualifiers + 1
 
 -- the pieces of the qualifiers
 abbrev pub pieces_of : Parts → List (ℕ × List ℕ)

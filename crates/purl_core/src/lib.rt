@@ -3,6 +3,8 @@
 
 mod cutting;
 mod fault;
+mod pairing;
+mod placing;
 mod reading;
 mod value;
 mod writing;
