@@ -1,6 +1,8 @@
 pub mod Ascending
+pub mod Assembled
 pub mod Cuts
 pub mod Joined
+pub mod Kept
 pub mod Lacking
 pub mod OneValue
 pub mod PartLaws
@@ -8,6 +10,7 @@ pub mod Pieces
 pub mod Printed
 pub mod Put
 pub mod Refused
+pub mod Sizes
 pub mod SoFar
 pub mod Splits
 pub mod Valid

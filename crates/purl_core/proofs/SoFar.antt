@@ -216,7 +216,7 @@ put_is key value old new None is at =
 
 -- ---- the pieces one by one
 
-first_value : (piece : List ℕ) (at : ℕ) (pair : List ℕ × List ℕ) → IsPiece piece pair → value_in at piece ≡ (at + length pair.0 + 1, pair.1) ∷ []
+pub first_value : (piece : List ℕ) (at : ℕ) (pair : List ℕ × List ℕ) → IsPiece piece pair → value_in at piece ≡ (at + length pair.0 + 1, pair.1) ∷ []
 first_value piece at pair is = value_cut at piece pair.0 pair.1 (record { joined = is.joined; first = key_lacks 61 pair.0 refl refl is.key })
 
 pub value_text : (piece : List ℕ) (at : ℕ) (pair : List ℕ × List ℕ) → IsPiece piece pair → AllText (value_in at piece) → IsUtf8 (unescaped pair.1)

@@ -6,6 +6,7 @@ pub mod Places
 pub mod Placing
 pub mod Printed
 pub mod Reading
+pub mod Reads
 pub mod Spelling
 pub mod Value
 pub mod Written

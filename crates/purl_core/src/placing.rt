@@ -19,7 +19,7 @@ pub(crate) struct Part<'a> {
     pub(crate) bytes: &'a [u8],
 }
 
-fn split(alloc: Global, text: &[u8], mark: u8) -> Result<Vec<&[u8]>, AllocError>
+pub(crate) fn split(alloc: Global, text: &[u8], mark: u8) -> Result<Vec<&[u8]>, AllocError>
     ensures { IfOk result (λ v. map (λ part. part.now) v.items ≡ slice_split (λ b. b == mark) text.now) }
 {
     text.split(|byte| *byte == mark).collect(alloc)
