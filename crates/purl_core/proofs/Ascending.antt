@@ -1,5 +1,5 @@
 -- Ascending pairs, with one more at the end or one fewer.
-use Rattle.std.proofs.Common.{◌≡◌, ◌++◌, ℕ, List, [], ◌∷◌, map, refl, ap, subst, sym, ◌∙◌, Result, Ok, Err, OnOk, OnErr, Option, Some, None, MatchOption, Less}
+use Rattle.std.proofs.Common.{◌≡◌, ◌++◌, ℕ, List, [], ◌∷◌, map, refl, ap, subst, ◌∙◌, Result, Ok, Err, OnOk, OnErr, Option, Some, None, MatchOption, Less}
 use Rattle.std.specs.List.{AllByRecursion}
 use Rattle.std.specs.Ordering.{nat_cmp}
 use Rattle.std.specs.Cmp.Lexicographic.{slice_cmp}

@@ -1,5 +1,5 @@
 -- The checked parts of a text, put together, are what the text spells.
-use Rattle.std.proofs.Common.{◌≡◌, ◌≢◌, ◌++◌, ◌+◌, ℕ, List, [], ◌∷◌, map, length, refl, sym, ap, ◌∙◌, subst, Option, Some, None, true, Bool, Result, Ok, Err}
+use Rattle.std.proofs.Common.{◌≡◌, ◌++◌, ◌+◌, ℕ, List, [], ◌∷◌, map, length, refl, sym, ap, ◌∙◌, subst, Option, Some, None, true, Err}
 use Rattle.std.specs.List.{AllByRecursion, slice_split}
 use Rattle.std.specs.Str.{IsUtf8}
 use Rattle.std.specs.Char.{is_ascii_alphabetic}
@@ -10,9 +10,9 @@ use Rattle.vx_spec.proofs.TextLaws.{each_by_test, utf8_by_each}
 use Rattle.vx_text.specs.Escapes.{IsWhole, unescaped}
 use Rattle.vx_text.specs.Folding.{lowered}
 use Rattle.purl_core.specs.Grammar.{Parts, IsWritten, is_kind, is_kind_byte, kept}
-use Rattle.purl_core.specs.Value.{Ascending, Package}
+use Rattle.purl_core.specs.Value.{Ascending}
 use Rattle.purl_core.specs.Spelling.{ArePieces, Distinct, IsDecodable, IsPiece, SameMap, SpellsPurl, listed, not_empty, pieces, valued}
-use Rattle.purl_core.specs.Places.{AllPieces, AllText, AllWhole, AreKeyed, IsDuplicateAt, components, keyed_pair, path_at, pieces_of, placed, placed_whole, places, subpath_at, value_in, values, version_at, without_places}
+use Rattle.purl_core.specs.Places.{AllText, AllWhole, AreKeyed, components, keyed_pair, path_at, pieces_of, placed, placed_whole, places, subpath_at, value_in, values, version_at, without_places}
 use Rattle.purl_core.specs.Reading.{IsRefused}
 use Rattle.purl_core.specs.Reads.{IsChecked, IsText, without_dots}
 use Rattle.purl_core.specs.Pairing.{IsPaired}
@@ -72,17 +72,15 @@ both : (xs : List (List ℕ)) → AllByRecursion IsWhole xs → AllByRecursion I
 both [] p q = tt
 both (x ∷ xs) p q = (record { whole = p.0; utf8 = q.0 }, both xs p.1 q.1)
 
-bytes_of : List (ℕ × List ℕ) → List (List ℕ)
+abbrev pub bytes_of : List (ℕ × List ℕ) → List (List ℕ)
 bytes_of parts = map (λ (part : ℕ × List ℕ). part.1) parts
 
 bytes_places : (at : ℕ) (xs : List (List ℕ)) → bytes_of (places at xs) ≡ kept xs
-unfolding bytes_of
 bytes_places at [] = refl
 bytes_places at ([] ∷ xs) = bytes_places (at + 1) xs
 bytes_places at ((b ∷ x) ∷ xs) = ap (λ (l : List (List ℕ)). (b ∷ x) ∷ l) (bytes_places (at + length (b ∷ x) + 1) xs)
 
-bytes_placed : (at mark : ℕ) (x : Option (List ℕ)) → bytes_of (placed at mark x) ≡ pieces mark x
-unfolding bytes_of
+pub bytes_placed : (at mark : ℕ) (x : Option (List ℕ)) → bytes_of (placed at mark x) ≡ pieces mark x
 bytes_placed at mark None = refl
 bytes_placed at mark (Some text) = bytes_places at (slice_split (λ b. eqb b mark) text)
 
@@ -94,23 +92,25 @@ record AreThePairs (parts : List (ℕ × List ℕ)) (keyed : List (ℕ × (List 
   good : AllByRecursion (λ (pair : List ℕ × List ℕ). IsDecodable pair.1) pairs
   valued_are : valued pairs ≡ without_places keyed
 
-valued_more : (at : ℕ) (pair : List ℕ × List ℕ) (pairs : List (List ℕ × List ℕ)) (rest : List (ℕ × (List ℕ × List ℕ))) → valued pairs ≡ without_places rest
+pub valued_more : (at : ℕ) (pair : List ℕ × List ℕ) (pairs : List (List ℕ × List ℕ)) (rest : List (ℕ × (List ℕ × List ℕ))) → valued pairs ≡ without_places rest
     → valued (pair ∷ pairs) ≡ without_places (keyed_pair at pair ++ rest)
 valued_more at (key, []) pairs rest e = e
 valued_more at (key, b ∷ value) pairs rest e = ap (λ (l : List (List ℕ × List ℕ)). (lowered key, unescaped (b ∷ value)) ∷ l) e
 
 the_pairs : (parts : List (ℕ × List ℕ)) (keyed : List (ℕ × (List ℕ × List ℕ))) → AreKeyed parts keyed → AllWhole (values parts) → AllText (values parts) → AreThePairs parts keyed
-unfolding bytes_of
 the_pairs [] keyed are whole text = record { pairs = []; are = tt; good = tt; valued_are = sym (ap without_places are) }
 the_pairs (part ∷ parts) keyed (pair, rest, is, more, e) whole text =
     let r = the_pairs parts rest more (each_behind IsWhole (value_in part.0 part.1) (values parts) whole) (each_behind IsText (value_in part.0 part.1) (values parts) text) in
     record {
       pairs = pair ∷ r.pairs;
       are = (is, r.are);
-      good = (record {
-        whole = value_has IsWhole part pair is (each_front IsWhole (value_in part.0 part.1) (values parts) whole);
-        utf8 = value_has IsText part pair is (each_front IsText (value_in part.0 part.1) (values parts) text);
-      }, r.good);
+      good = (
+        record {
+          whole = value_has IsWhole part pair is (each_front IsWhole (value_in part.0 part.1) (values parts) whole);
+          utf8 = value_has IsText part pair is (each_front IsText (value_in part.0 part.1) (values parts) text);
+        },
+        r.good,
+      );
       valued_are = valued_more part.0 pair r.pairs rest r.valued_are ∙ ap without_places (sym e);
     }
 

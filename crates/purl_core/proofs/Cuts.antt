@@ -1,10 +1,8 @@
 -- Cuts: where they are, and that there is one.
-use Rattle.std.proofs.Common.{◌≡◌, ◌≢◌, ◌<◌, ◌≤◌, ◌+◌, ◌-◌, ℕ, zero, suc, List, [], ◌∷◌, ◌++◌, length, get_or, take, drop, refl, sym, ap, ◌∙◌, subst, Option, Some, None, arith, append-nil, All, take-append-drop, length-drop}
-use Rattle.std.specs.List.{AllByRecursion}
+use Rattle.std.proofs.Common.{◌≡◌, ◌≢◌, ◌<◌, ◌≤◌, ◌+◌, ◌-◌, ℕ, zero, suc, List, [], ◌∷◌, ◌++◌, length, get_or, take, drop, refl, sym, ap, ◌∙◌, subst, Option, Some, None, arith, append-nil, take-append-drop, length-drop}
 use Rattle.std.proofs.lemmas.List.{drop_more, get_or-take, get_or-drop, length-take-le, take_rest}
 use Rattle.std.proofs.Common.{inl, inr}
 use Rattle.std.proofs.lemmas.Bool.{cases_eq}
-use Rattle.std.proofs.lemmas.List.Elements.{recursion_from_All, All-from_get_or}
 use Rattle.vx_spec.proofs.MarkLaws.{lacks}
 use Rattle.vx_spec.specs.Marks.{Lacks, marked, IsCut}
 use Rattle.purl_core.specs.Cuts.{last_part, IsLastCut, last_of, NoneCounts, CountsLast, IsVersionCut}
@@ -103,9 +101,9 @@ pub last_step : (text : List ℕ) (at : ℕ) → 0 < at
     → (i : ℕ) → at - 1 ≤ i → i < length text → get_or text i 0 ≡ 64 → 0 < i → get_or text (i - 1) 0 ≡ 47
 last_step text at some here after i low w e s = elim (cases_eq i (at - 1)) [
   | inl same ↦ elim (cases_eq (get_or text (i - 1) 0) 47) [
-      | inl is ↦ is
-      | inr other ↦ absurd (here (rw (← same) e) (rw (← same) s) (rw (← same) other))
-    ]
+    | inl is ↦ is
+    | inr other ↦ absurd (here (rw (← same) e) (rw (← same) s) (rw (← same) other))
+  ]
   | inr differs ↦ after i (omega (arith, low, differs)) w e s
 ]
 

@@ -1,7 +1,6 @@
 -- Joined parts, as they are written one after another.
 use Rattle.std.proofs.Common.{◌≡◌, ◌++◌, ℕ, List, [], ◌∷◌, map, refl, sym, ap, ◌∙◌, append-nil, append_assoc}
 use Rattle.std.specs.List.{join_with_byte}
-use Rattle.std.proofs.Common.{Option, OnOk, Result}
 use Rattle.std.proofs.lemmas.List.{map-append}
 use Rattle.std.specs.Prelude.{option_map}
 use Rattle.vx_text.specs.Escapes.{escaped}

@@ -1,14 +1,8 @@
 -- How joined parts are cut again, and that the version's '@' counts in a printed text.
-use Rattle.std.proofs.Common.{◌≡◌, ◌≢◌, ◌<◌, ◌+◌, ◌/◌, ◌%◌, ◌++◌, ◌&&◌, ◌||◌, eqb, ℕ, Bool, true, false, List, [], ◌∷◌, length, map, refl, sym, ap, ◌∙◌, subst, Option, Some, None, arith, inl, inr, append-nil}
-use Rattle.std.specs.List.{AllByRecursion, join_with_byte, slice_split, list_all}
-use Rattle.std.specs.Fmt.{digit_glyph}
-use Rattle.std.proofs.lemmas.Bool.{and_parts, false≢true, true≢false, cases_Bool, ne_eqb}
-use Rattle.std.proofs.lemmas.Bool.Decides.{nat_tests}
-use Rattle.std.proofs.lemmas.List.Splits.{slice_split_none, slice_split_at}
-use Rattle.std.proofs.lemmas.List.Elements.{All-from_recursion}
-use Rattle.percent_encoding.specs.Percent.{percent_encode_byte}
+use Rattle.std.proofs.Common.{◌≡◌, ◌≢◌, ◌++◌, ℕ, List, [], ◌∷◌, refl, sym, ap, ◌∙◌}
+use Rattle.std.specs.List.{AllByRecursion, join_with_byte}
 use Rattle.vx_text.proofs.Joins.{split_join}
-use Rattle.vx_spec.specs.Marks.{Lacks, marked}
+use Rattle.vx_spec.specs.Marks.{Lacks}
 use Rattle.purl_core.specs.Cuts.{last_of, NoneCounts}
 use Rattle.purl_core.specs.Grammar.{kept}
 use Rattle.purl_core.specs.Spelling.{pieces}

@@ -13,4 +13,5 @@ pub mod Refused
 pub mod Sizes
 pub mod SoFar
 pub mod Splits
+pub mod Unspelled
 pub mod Valid

@@ -1,18 +1,17 @@
 -- A text spells one package URL.
-use Rattle.std.proofs.Common.{◌≡◌, ◌≢◌, ◌++◌, ◌&&◌, ◌⊎◌, ◌↔◌, ℕ, Bool, true, false, List, [], ◌∷◌, map, refl, sym, ap, ◌∙◌, subst, Option, Some, None, inl, inr}
+use Rattle.std.proofs.Common.{◌≡◌, ◌≢◌, ◌++◌, ℕ, Bool, true, false, List, [], ◌∷◌, refl, sym, ap, ◌∙◌, subst, Option, Some, None, inl, inr}
 use Rattle.std.specs.List.{AllByRecursion, list_all}
-use Rattle.std.proofs.Common.{Less, Equal, Greater}
+use Rattle.std.proofs.Common.{Less}
 use Rattle.std.specs.Ordering.{nat_cmp, ordering_reverse}
 use Rattle.std.specs.Cmp.Lexicographic.{slice_cmp}
 use Rattle.std.specs.Char.{is_ascii_alphabetic}
 use Rattle.std.proofs.lemmas.Bool.{and_parts, false≢true}
 use Rattle.std.proofs.lemmas.Cmp.{nat_list_cmp_total}
-use Rattle.vx_spec.specs.Marks.{Lacks, marked}
-use Rattle.purl_core.specs.Grammar.{Parts, IsWritten, kept}
+use Rattle.vx_spec.specs.Marks.{Lacks}
+use Rattle.purl_core.specs.Grammar.{Parts}
 use Rattle.vx_spec.proofs.MarkLaws.{one_cut}
 use Rattle.purl_core.proofs.PartLaws.{one_written}
 use Rattle.purl_core.specs.Value.{Package, is_key, is_key_byte, Ascending}
-use Rattle.vx_text.specs.Folding.{lowered}
 use Rattle.purl_core.specs.Spelling.{IsPiece, ArePieces, Member, SameMap, valued, listed, IsValued, SpellsPurl}
 
 pub lacks_by : (test : ℕ → Bool) (c : ℕ) (text : List ℕ) → test c ≡ false → list_all test text ≡ true → Lacks c text
@@ -27,7 +26,7 @@ key_lacks c (b ∷ key) no_letter no_byte is =
     let a = and_parts _ _ is in
     ((λ e. false≢true (sym no_letter ∙ sym (ap is_ascii_alphabetic e) ∙ a.0)), lacks_by is_key_byte c key no_byte a.1)
 
-one_piece : (piece : List ℕ) (x y : List ℕ × List ℕ) → IsPiece piece x → IsPiece piece y → x ≡ y
+pub one_piece : (piece : List ℕ) (x y : List ℕ × List ℕ) → IsPiece piece x → IsPiece piece y → x ≡ y
 one_piece piece x y p q =
     let e = one_cut 61 x.0 y.0 (Some x.1) (Some y.1) (key_lacks 61 x.0 refl refl p.key) (key_lacks 61 y.0 refl refl q.key) (sym p.joined ∙ q.joined) in
     let v : x.1 ≡ y.1 = cc (e.1) in
@@ -78,7 +77,8 @@ same_lists (x ∷ xs) (y ∷ ys) p q same =
     let first = heads x y xs ys p q ((same x).0 (inl refl)) ((same y).1 (inl refl)) in
     let rest = same_lists xs ys p.1 q.1 (λ z. (
       (λ m. tail_member x y z xs ys first p m ((same z).0 (inr m))),
-      (λ m. tail_member y x z ys xs (sym first) q m ((same z).1 (inr m))))) in
+      (λ m. tail_member y x z ys xs (sym first) q m ((same z).1 (inr m))),
+    )) in
     cc (first, rest)
 
 -- ---- whole values
@@ -100,7 +100,7 @@ one_listed (Some s) (Some t) e = cc e
 pub same_package : {k k' n n' : List ℕ} {s s' u u' : List (List ℕ)} {v v' : Option (List ℕ)} {q q' : List (List ℕ × List ℕ)}
     → k ≡ k' → s ≡ s' → n ≡ n' → v ≡ v' → q ≡ q' → u ≡ u'
     → ◌≡◌ {A = Package} (record { kind = k; namespace = s; name = n; version = v; qualifiers = q; subpath = u })
-      (record { kind = k'; namespace = s'; name = n'; version = v'; qualifiers = q'; subpath = u' })
+    (record { kind = k'; namespace = s'; name = n'; version = v'; qualifiers = q'; subpath = u' })
 same_package a b c d e f = cc (a, b, c, d, e, f)
 
 swap_map : (xs ys zs : List (List ℕ × List ℕ)) → SameMap xs zs → SameMap ys zs → SameMap xs ys
@@ -112,7 +112,7 @@ one_valued parts p q x y =
     let pairs = one_pieces _ x.pairs y.pairs x.pairs_are y.pairs_are in
     let map_of : SameMap q.qualifiers (valued x.pairs) = rw pairs y.qualifiers in
     same_package (x.kind ∙ sym y.kind) path.0 path.1 (one_listed p.version q.version (x.version ∙ sym y.version))
-      (same_lists p.qualifiers q.qualifiers x.ascending y.ascending (swap_map p.qualifiers q.qualifiers (valued x.pairs) x.qualifiers map_of)) (x.subpath ∙ sym y.subpath)
+    (same_lists p.qualifiers q.qualifiers x.ascending y.ascending (swap_map p.qualifiers q.qualifiers (valued x.pairs) x.qualifiers map_of)) (x.subpath ∙ sym y.subpath)
 
 pub one_value : (text : List ℕ) (p q : Package) → SpellsPurl text p → SpellsPurl text q → p ≡ q
 one_value text p q x y = one_valued x.parts p q x.valued_as (rw (one_written text x.parts y.parts x.written y.written) y.valued_as)

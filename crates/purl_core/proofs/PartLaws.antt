@@ -1,13 +1,11 @@
 -- A text is written of one list of raw parts.
-use Rattle.std.proofs.Common.{◌≡◌, ◌≢◌, ◌<◌, ◌≤◌, ◌+◌, ◌-◌, ◌&&◌, eqb, cond, ℕ, zero, suc, Bool, true, false, not, List, [], ◌∷◌, ◌++◌, length, map, take, drop, refl, sym, ap, ◌∙◌, subst, Option, Some, None, arith, append-nil, append_assoc, inl, inr, IsTrue, take-append-drop}
-use Rattle.std.specs.List.{AllByRecursion, list_all, list_any, prefix_len, slice_split, onto_first}
+use Rattle.std.proofs.Common.{◌≡◌, ◌≢◌, ◌≤◌, ◌+◌, eqb, ℕ, suc, Bool, true, false, not, List, [], ◌∷◌, ◌++◌, length, map, take, drop, refl, sym, ap, ◌∙◌, subst, Option, Some, arith, inl, inr}
+use Rattle.std.specs.List.{AllByRecursion, list_all, list_any, prefix_len, onto_first}
 use Rattle.std.specs.Char.{is_ascii_alphabetic, to_ascii_lowercase}
-use Rattle.std.proofs.lemmas.Bool.{and_parts, false≢true, cases_Bool, eqb-true, eqb-false, ne_eqb, eq-eqb}
-use Rattle.std.proofs.lemmas.Bool.Decides.{nat_tests}
+use Rattle.std.proofs.lemmas.Bool.{and_parts, false≢true, cases_Bool, eqb-true, ne_eqb, eq-eqb}
 use Rattle.vx_spec.proofs.MarkLaws.{one_cut}
 use Rattle.vx_spec.specs.Marks.{Lacks, marked, IsCut}
-use Rattle.purl_core.specs.Cuts.{IsLastCut, IsVersionCut}
-use Rattle.purl_core.specs.Grammar.{is_kind, is_kind_byte, IsEnded, HasScheme, HasType, HasSegment, between, kept, Parts, IsWritten, WithScheme, WithType}
+use Rattle.purl_core.specs.Grammar.{is_kind, is_kind_byte, IsEnded, HasScheme, HasType, HasSegment, between, kept, Parts, IsWritten}
 use Rattle.purl_core.proofs.Cuts.{one_last_cut, one_version_cut}
 
 pub one_ended : {text b b' : List ℕ} {q q' s s' : Option (List ℕ)} → IsEnded text b q s → IsEnded text b' q' s' → (b ≡ b') × (q ≡ q') × (s ≡ s')
@@ -107,7 +105,7 @@ one_type {rest} {sl} {kind} {sl'} {kind'} {behind} {behind'} x y =
 
 same : {s s' l l' k k' p p' : List ℕ} {v v' q q' u u' : Option (List ℕ)} → s ≡ s' → l ≡ l' → k ≡ k' → p ≡ p' → v ≡ v' → q ≡ q' → u ≡ u'
     → ◌≡◌ {A = Parts} (record { scheme = s; slashes = l; kind = k; path = p; version = v; qualifiers = q; subpath = u })
-      (record { scheme = s'; slashes = l'; kind = k'; path = p'; version = v'; qualifiers = q'; subpath = u' })
+    (record { scheme = s'; slashes = l'; kind = k'; path = p'; version = v'; qualifiers = q'; subpath = u' })
 same a b c d e f g = cc (a, b, c, d, e, f, g)
 
 pub one_written : (text : List ℕ) (p q : Parts) → IsWritten text p → IsWritten text q → p ≡ q

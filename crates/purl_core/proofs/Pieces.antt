@@ -1,5 +1,5 @@
 -- Where a piece is cut.
-use Rattle.std.proofs.Common.{◌≡◌, ◌∙◌, ◌++◌, sym, Option, Some, List, ℕ, refl}
+use Rattle.std.proofs.Common.{◌≡◌, ◌∙◌, sym, Option, Some, List, ℕ, refl}
 use Rattle.vx_spec.specs.Marks.{IsCut}
 use Rattle.vx_spec.proofs.MarkLaws.{one_cut}
 use Rattle.purl_core.specs.Spelling.{IsPiece}

@@ -1,7 +1,7 @@
 -- The printed text of a value spells the value.
-use Rattle.std.proofs.Common.{◌≡◌, ◌≢◌, ◌<◌, ◌++◌, ◌&&◌, ◌⊎◌, ◌↔◌, eqb, ℕ, Bool, true, false, not, List, [], ◌∷◌, length, map, refl, sym, ap, ◌∙◌, subst, Option, Some, None, inl, inr, filter, IsUtf8, All}
+use Rattle.std.proofs.Common.{◌≡◌, ◌≢◌, ◌<◌, ◌++◌, ℕ, true, false, not, List, [], ◌∷◌, map, refl, sym, ap, ◌∙◌, subst, Option, Some, None, filter}
 use Rattle.std.specs.Prelude.{option_map}
-use Rattle.std.specs.List.{AllByRecursion, join_with_byte, list_all, slice_split}
+use Rattle.std.specs.List.{AllByRecursion, join_with_byte}
 use Rattle.std.specs.Ordering.{nat_cmp}
 use Rattle.std.proofs.Common.{Less}
 use Rattle.std.specs.Cmp.Lexicographic.{slice_cmp}
@@ -9,19 +9,18 @@ use Rattle.std.specs.Char.{is_ascii_alphabetic}
 use Rattle.std.proofs.lemmas.Bool.{and_parts, false≢true, eqb-false}
 use Rattle.std.proofs.lemmas.List.Elements.{All-from_recursion}
 use Rattle.percent_encoding.specs.Percent.{percent_decode}
-use Rattle.percent_encoding.proofs.PercentLemmas.{IsByte}
 use Rattle.vx_text.specs.Escapes.{escaped, is_left}
 use Rattle.vx_text.proofs.EscapeLaws.{escaped-whole, unescaped-escaped}
 use Rattle.vx_spec.specs.Marks.{Lacks, marked}
 use Rattle.purl_core.specs.Cuts.{last_part, IsLastCut, IsVersionCut}
-use Rattle.purl_core.specs.Grammar.{Parts, IsWritten, IsEnded, HasScheme, HasType, is_kind, is_kind_byte, kept, HasSegment, between}
-use Rattle.purl_core.specs.Value.{Package, IsValid, IsPart, IsPair, IsSegment, IsVersion, Ascending, is_key, is_key_byte, is_dots}
+use Rattle.purl_core.specs.Grammar.{Parts, IsWritten, IsEnded, is_kind, is_kind_byte}
+use Rattle.purl_core.specs.Value.{Package, IsValid, IsPart, IsPair, IsSegment, IsVersion, Ascending, is_key_byte, is_dots}
 use Rattle.vx_text.specs.Folding.{lowered}
-use Rattle.purl_core.specs.Spelling.{IsDecodable, pieces, not_empty, listed, IsPiece, ArePieces, valued, Member, Distinct, SameMap, IsValued, SpellsPurl}
+use Rattle.purl_core.specs.Spelling.{IsDecodable, pieces, not_empty, listed, ArePieces, valued, Member, Distinct, SameMap, IsValued, SpellsPurl}
 use Rattle.purl_core.specs.Printed.{joined, pair_text, path_text, body_text, purl_text}
 use Rattle.purl_core.proofs.OneValue.{lacks_by, key_lacks, one_value, irreflexive}
 use Rattle.vx_text.proofs.EscapeLaws.{escaped_lacks, escaped_some}
-use Rattle.vx_text.proofs.Joins.{lacks_append, join_lacks, marked_lacks, split_join}
+use Rattle.vx_text.proofs.Joins.{lacks_append, join_lacks, marked_lacks}
 use Rattle.purl_core.proofs.Lacking.{kept_all, pieces_joined, none_lacks, last_join}
 
 -- a byte that stands only as a sign before the qualifiers or the subpath
@@ -108,8 +107,9 @@ version_cut p valid = record { joined = refl; counts = counts p.version } where
   counts : (v : Option (List ℕ)) → Rattle.purl_core.specs.Cuts.CountsLast 47 (path_text p) (option_map escaped v)
   counts None = none_lacks 47 (path_text p) (path_lacks 64 p refl (eqb-false _ _ refl) (eqb-false _ _ refl))
   counts (Some v) = (
-      rw (map_last p.namespace p.name) (last_join 47 (map escaped p.namespace) (escaped p.name) (escaped_some p.name valid.name.some) (escaped_lacks 47 p.name refl (eqb-false _ _ refl))),
-      none_lacks 64 (escaped v) (escaped_lacks 64 v refl (eqb-false _ _ refl)))
+    rw (map_last p.namespace p.name) (last_join 47 (map escaped p.namespace) (escaped p.name) (escaped_some p.name valid.name.some) (escaped_lacks 47 p.name refl (eqb-false _ _ refl))),
+    none_lacks 64 (escaped v) (escaped_lacks 64 v refl (eqb-false _ _ refl)),
+  )
 
 -- ---- qualifiers
 
@@ -198,9 +198,20 @@ abbrev subpath_of : Package → Option (List ℕ)
 subpath_of p = joined 47 (map escaped p.subpath)
 
 body_lacks : (c : ℕ) (p : Package) → IsSign c → IsValid p → Lacks c (body_text p)
-body_lacks c p sign valid =
-    (sign.p, (sign.k, (sign.g, (sign.colon, lacks_append c p.kind _ (kind_lacks c p.kind sign valid.kind)
-    (sign.slash, lacks_append c (path_text p) _ (path_lacks c p sign.left sign.percent sign.slash) (marked_lacks 64 c (option_map escaped p.version) sign.at (version_lacks p.version)))))))
+body_lacks c p sign valid = (
+  sign.p,
+  (
+    sign.k,
+    (
+      sign.g,
+      (
+        sign.colon,
+        lacks_append c p.kind _ (kind_lacks c p.kind sign valid.kind)
+            (sign.slash, lacks_append c (path_text p) _ (path_lacks c p sign.left sign.percent sign.slash) (marked_lacks 64 c (option_map escaped p.version) sign.at (version_lacks p.version))),
+      ),
+    ),
+  ),
+)
   where
     version_lacks : (v : Option (List ℕ)) (t : List ℕ) → option_map escaped v ≡ Some t → Lacks c t
     version_lacks None t e = cc e
@@ -217,8 +228,8 @@ ended : (p : Package) → IsValid p → IsEnded (purl_text p) (body_text p) (que
 ended p valid = record {
   front = body_text p ++ marked 63 (query p);
   subpath_cut = last_is 35 (body_text p ++ marked 63 (query p)) (subpath_of p)
-    (lacks_append 35 (body_text p) _ (body_lacks 35 p hash valid) (marked_lacks 63 35 (query p) (eqb-false _ _ refl) (query_lacks 35 p hash valid)))
-    (joined_lacks 47 35 (map escaped p.subpath) (eqb-false _ _ refl) (all_escaped_lack 35 p.subpath refl (eqb-false _ _ refl)));
+      (lacks_append 35 (body_text p) _ (body_lacks 35 p hash valid) (marked_lacks 63 35 (query p) (eqb-false _ _ refl) (query_lacks 35 p hash valid)))
+      (joined_lacks 47 35 (map escaped p.subpath) (eqb-false _ _ refl) (all_escaped_lack 35 p.subpath refl (eqb-false _ _ refl)));
   qualifiers_cut = last_is 63 (body_text p) (query p) (body_lacks 63 p question valid) (query_lacks 63 p question valid);
 }
 

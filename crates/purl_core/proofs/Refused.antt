@@ -1,6 +1,5 @@
 -- Why a text is refused.
-use Rattle.std.proofs.Common.{◌≡◌, ◌++◌, ℕ, List, Option, Some, None, sym, ◌∙◌, subst}
-use Rattle.vx_spec.specs.Marks.{marked}
+use Rattle.std.proofs.Common.{◌≡◌, ℕ, List, Option, Some, None, sym, ◌∙◌}
 use Rattle.purl_core.specs.Cuts.{IsVersionCut}
 use Rattle.purl_core.specs.Grammar.{IsEnded, HasScheme, HasType, HasSegment, Parts, IsWritten, WithScheme, WithType}
 use Rattle.purl_core.proofs.Cuts.{one_version_cut}

@@ -1,5 +1,5 @@
 -- The places of the parts of a written text fit.
-use Rattle.std.proofs.Common.{◌≡◌, ◌<◌, ◌≤◌, ◌+◌, ◌^◌, ◌++◌, ℕ, List, [], ◌∷◌, length, eqb, refl, sym, ap, ◌∙◌, arith, length-append, Option, Some, None, inl, inr}
+use Rattle.std.proofs.Common.{◌≡◌, ◌<◌, ◌≤◌, ◌+◌, ◌^◌, ◌++◌, ℕ, List, [], ◌∷◌, length, eqb, refl, ap, ◌∙◌, arith, length-append, Option, Some, None, inl, inr}
 use Rattle.std.specs.List.{slice_split}
 use Rattle.std.proofs.lemmas.Bool.{cases_Bool}
 use Rattle.vx_spec.specs.Marks.{marked}
@@ -44,8 +44,8 @@ components_fit p fits =
     fit_append (placed (path_at p) 47 (Some p.path)) (placed_whole (version_at p) p.version ++ (values (pieces_of p) ++ placed (subpath_at p) 47 p.subpath))
     (placed_fit (path_at p) 47 (Some p.path) (omega arith))
     (fit_append (placed_whole (version_at p) p.version) (values (pieces_of p) ++ placed (subpath_at p) 47 p.subpath)
-      (whole_fit (version_at p) p.version (omega arith))
-      (fit_append (values (pieces_of p)) (placed (subpath_at p) 47 p.subpath) (values_fit (pieces_of p) (pieces_fit p fits)) (placed_fit (subpath_at p) 47 p.subpath (omega arith))))
+    (whole_fit (version_at p) p.version (omega arith))
+    (fit_append (values (pieces_of p)) (placed (subpath_at p) 47 p.subpath) (values_fit (pieces_of p) (pieces_fit p fits)) (placed_fit (subpath_at p) 47 p.subpath (omega arith))))
 
 marked_size : (mark : ℕ) (x : Option (List ℕ)) → length (marked mark x) ≡ with_sign x
 marked_size mark None = refl

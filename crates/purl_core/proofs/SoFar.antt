@@ -1,6 +1,6 @@
 -- What is known of the pieces that were put in order so far.
-use Rattle.std.proofs.Common.{◌≡◌, ◌≢◌, ◌++◌, ◌⊎◌, ◌↔◌, ℕ, Bool, true, false, List, [], ◌∷◌, map, refl, sym, ap, ◌∙◌, subst, inl, inr, append_assoc, append-nil, Ordering, Less, Equal, Greater, Option, Some, None, String, string_bytes, cond, Global, ◌<◌, ◌+◌, length, arith}
-use Rattle.std.specs.Ordering.{nat_cmp, is_eq, is_lt, ordering_reverse, match_ordering}
+use Rattle.std.proofs.Common.{◌≡◌, ◌≢◌, ◌++◌, ◌⊎◌, ℕ, Bool, true, false, List, [], ◌∷◌, map, refl, sym, ap, ◌∙◌, subst, inl, inr, append_assoc, append-nil, Ordering, Less, Equal, Greater, Option, Some, None, String, string_bytes, Global, ◌<◌, ◌+◌, length, arith}
+use Rattle.std.specs.Ordering.{nat_cmp, is_eq, ordering_reverse}
 use Rattle.std.specs.Cmp.Lexicographic.{slice_cmp}
 use Rattle.std.specs.BTreeMap.{insert_entry}
 use Rattle.std.specs.Map.{lookup}
@@ -19,7 +19,7 @@ use Rattle.vx_text.specs.Escapes.{unescaped}
 use Rattle.vx_text.specs.Folding.{lowered}
 use Rattle.purl_core.specs.Value.{Ascending, is_key, is_key_byte}
 use Rattle.purl_core.specs.Spelling.{Distinct, IsPiece, Member, SameMap}
-use Rattle.purl_core.specs.Places.{AllPieces, AllText, AreKeyed, HasKey, HasPiece, IsDuplicateAt, keyed_pair, value_in, without_places}
+use Rattle.purl_core.specs.Places.{AllPieces, AllText, AreKeyed, HasKey, IsDuplicateAt, keyed_pair, value_in, without_places}
 use Rattle.purl_core.specs.Pairing.{PutsKeyed, PutsPair, PutsPiece, entry_view, put}
 use Rattle.purl_core.proofs.OneValue.{key_lacks}
 use Rattle.purl_core.proofs.Put.{put_ascending, put_same}
@@ -83,7 +83,8 @@ cons_map_back x z xs ys same (inr m) = inr ((same z).1 m)
 same_more : (x : List ℕ × List ℕ) (xs ys : List (List ℕ × List ℕ)) → SameMap xs ys → SameMap (put x xs) (ys ++ x ∷ [])
 same_more x xs ys same z = (
   (λ m. member_front x z ys (cons_map x z xs ys same ((put_same x xs z).0 m))),
-  (λ m. (put_same x xs z).1 (cons_map_back x z xs ys same (member_back x z ys m))))
+  (λ m. (put_same x xs z).1 (cons_map_back x z xs ys same (member_back x z ys m))),
+)
 
 -- ---- the pieces so far
 
@@ -157,17 +158,18 @@ twice_at pieces rest piece old new f (pair, is, puts) good = elim (one_keyed pie
   | inr (q, one) ↦
       let stood : HasKey q.0 old = subst (λ k. PutsKeyed old new k true) one puts in
       let more = all_keyed rest good in
-      let entry : ℕ × (List ℕ × List ℕ) = (piece.0, q) in
-      (f.keyed ++ entry ∷ more.0,
-      f.front (entry ∷ more.0) (pair, more.0, is, more.1, ap (λ (k : List (ℕ × (List ℕ × List ℕ))). k ++ more.0) (sym one)),
-      record {
-        before = f.keyed;
-        pair = q;
-        behind = more.0;
-        split = refl;
-        first = f.distinct;
-        twice = same_keys q.0 old (without_places f.keyed) f.same stood;
-      })
+      let entry : ℕ × (List ℕ × List ℕ) = (piece.0, q) in (
+        f.keyed ++ entry ∷ more.0,
+        f.front (entry ∷ more.0) (pair, more.0, is, more.1, ap (λ (k : List (ℕ × (List ℕ × List ℕ))). k ++ more.0) (sym one)),
+        record {
+          before = f.keyed;
+          pair = q;
+          behind = more.0;
+          split = refl;
+          first = f.distinct;
+          twice = same_keys q.0 old (without_places f.keyed) f.same stood;
+        },
+      )
 ]
 
 -- ---- the entries of the map

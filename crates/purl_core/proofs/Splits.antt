@@ -1,9 +1,9 @@
 -- The size of a split text, and the value behind a cut.
-use Rattle.std.proofs.Common.{◌≡◌, ◌≢◌, ◌<◌, ◌+◌, ◌++◌, ℕ, List, [], ◌∷◌, length, eqb, refl, sym, ap, ◌∙◌, arith, length-append, append-nil, Option, Some, None}
+use Rattle.std.proofs.Common.{◌≡◌, ◌<◌, ◌+◌, ◌++◌, ℕ, List, [], ◌∷◌, length, eqb, refl, ap, ◌∙◌, arith, length-append, append-nil, Some, None}
 use Rattle.std.specs.List.{join_with_byte, slice_split}
-use Rattle.std.proofs.lemmas.Bool.{ne_eqb, eq-eqb}
+use Rattle.std.proofs.lemmas.Bool.{ne_eqb}
 use Rattle.std.proofs.lemmas.List.Splits.{join_with_byte-slice_split}
-use Rattle.vx_spec.specs.Marks.{IsCut, Lacks, marked}
+use Rattle.vx_spec.specs.Marks.{IsCut, Lacks}
 use Rattle.vx_text.proofs.Joins.{split_some}
 use Rattle.purl_core.specs.Places.{value_in}
 use Rattle.purl_core.specs.Placing.{total}

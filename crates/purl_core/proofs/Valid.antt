@@ -1,18 +1,18 @@
 -- What a text spells is a valid value.
-use Rattle.std.proofs.Common.{◌≡◌, ◌≢◌, ◌<◌, ◌≤◌, ◌*◌, ◌++◌, ◌&&◌, ◌⊎◌, ◌↔◌, eqb, cond, ℕ, Bool, true, false, not, List, [], ◌∷◌, length, map, filter, refl, sym, ap, ◌∙◌, subst, Option, Some, None, inl, inr, arith, All}
+use Rattle.std.proofs.Common.{◌≡◌, ◌≢◌, ◌<◌, ◌++◌, eqb, ℕ, Bool, true, false, not, List, [], ◌∷◌, length, map, filter, refl, sym, ap, subst, Option, Some, None, inl, inr, arith}
 use Rattle.std.specs.List.{AllByRecursion, list_all, slice_split, onto_first}
 use Rattle.std.specs.Char.{is_ascii_alphabetic, to_ascii_lowercase}
-use Rattle.std.proofs.lemmas.Bool.{and_parts, and_from, false≢true, cases_Bool}
+use Rattle.std.proofs.lemmas.Bool.{and_parts, and_from, cases_Bool}
 use Rattle.std.proofs.lemmas.Bool.Decides.{nat_tests}
 use Rattle.std.proofs.lemmas.List.Elements.{All-from_recursion, recursion_from_All}
 use Rattle.std.proofs.lemmas.Str.Ascii.{lowercase-lowercase}
 use Rattle.percent_encoding.specs.Percent.{percent_decode}
-use Rattle.percent_encoding.proofs.PercentLemmas.{IsByte, length-percent_decode, All-percent_decode}
+use Rattle.percent_encoding.proofs.PercentLemmas.{length-percent_decode, All-percent_decode}
 use Rattle.vx_spec.specs.Marks.{marked}
-use Rattle.purl_core.specs.Grammar.{Parts, IsWritten, is_kind, is_kind_byte, kept}
+use Rattle.purl_core.specs.Grammar.{is_kind, is_kind_byte, kept}
 use Rattle.purl_core.specs.Value.{Package, IsValid, IsPart, IsPair, IsSegment, IsVersion, is_key, is_key_byte, is_dots}
 use Rattle.vx_text.specs.Folding.{lowered}
-use Rattle.purl_core.specs.Spelling.{IsDecodable, pieces, not_empty, listed, IsPiece, ArePieces, valued, Member, SameMap, IsValued, SpellsPurl}
+use Rattle.purl_core.specs.Spelling.{IsDecodable, pieces, not_empty, listed, IsPiece, ArePieces, valued, Member, SpellsPurl}
 
 abbrev Bytes : List ℕ → Type 0
 Bytes text = AllByRecursion (λ b. b < 256) text
@@ -56,9 +56,9 @@ some_length (b ∷ text) some = omega arith
 part_of : (raw : List ℕ) → Raw raw → IsDecodable raw → IsPart (percent_decode raw)
 part_of raw is good = record {
   some = (λ e.
-    let size = (length-percent_decode raw).1 in
-    let none : length (percent_decode raw) ≡ 0 = ap length e in
-    absurd (omega (arith, size, none, some_length raw is.0)));
+      let size = (length-percent_decode raw).1 in
+      let none : length (percent_decode raw) ≡ 0 = ap length e in
+      absurd (omega (arith, size, none, some_length raw is.0)));
   utf8 = good.utf8;
   bytes = recursion_from_All (λ b. b < 256) (percent_decode raw) (All-percent_decode raw (All-from_recursion (λ b. b < 256) raw is.1));
 }
@@ -177,5 +177,5 @@ valid text p bytes s =
       pairs = all_members IsPair p.qualifiers (λ x m. member_of IsPair (valued v.pairs) x pairs ((v.qualifiers x).0 m));
       ascending = v.ascending;
       subpath = subst (AllByRecursion IsSegment) (sym v.subpath)
-        (segments (map percent_decode (pieces 47 r.subpath)) (parts_of (pieces 47 r.subpath) (pieces_raw 47 r.subpath (marked_bytes w.ended.front 35 r.subpath sub)) v.subpath_good));
+          (segments (map percent_decode (pieces 47 r.subpath)) (parts_of (pieces 47 r.subpath) (pieces_raw 47 r.subpath (marked_bytes w.ended.front 35 r.subpath sub)) v.subpath_good));
     }

@@ -1,10 +1,9 @@
 -- What reading a package URL answers.
 use Rattle.std.specs.Prelude.{◌≡◌, ℕ, List, Result, Ok, Err}
-use Rattle.std.specs.Option.{option_copied}
 use Rattle.purl_core.specs.Grammar.{Parts, IsWritten, WithScheme, WithType}
 use Rattle.purl_core.specs.Value.{Package}
 use Rattle.purl_core.specs.Spelling.{SpellsPurl}
-use Rattle.purl_core.specs.Places.{components, pieces_of, IsEscapeAt, AllWhole, IsNotTextAt, AllText, IsBadPieceAt, AllPieces, AreKeyed, IsDuplicateAt}
+use Rattle.purl_core.specs.Places.{components, pieces_of, IsEscapeAt, AllWhole, IsNotTextAt, AllText, IsBadPieceAt, AreKeyed, IsDuplicateAt}
 use Rattle.purl_core.specs.declared.fault.PurlFault.{PurlFault}
 use Rattle.purl_core.specs.declared.fault.PurlFault.TheVariants.{Scheme, BadType, Name, Escape, NotText, Qualifier, DuplicateKey, NoMemory}
 
@@ -25,3 +24,7 @@ IsRefused text NoMemory = Unit {0}
 abbrev pub IsReadAs : List ℕ → Result Package PurlFault → Type 0
 IsReadAs text (Ok p) = SpellsPurl text p
 IsReadAs text (Err fault) = IsRefused text fault
+
+-- a text that is refused for another cause than want of memory spells no package URL
+abbrev pub RefusedIsUnspelled : Type 0
+RefusedIsUnspelled = (text : List ℕ) (fault : PurlFault) (p : Package) → IsRefused text fault → SpellsPurl text p → fault ≡ NoMemory

@@ -19,7 +19,6 @@ IsChecked parts (Err (Qualifier at)) = AllWhole (components parts) × AllText (c
 IsChecked parts (Err (DuplicateKey at)) = ⊥
 IsChecked parts (Err NoMemory) = Unit {0}
 
-
 -- the segments that are neither '.' nor '..'
 abbrev pub without_dots : List (List ℕ) → List (List ℕ)
 without_dots segments = filter (λ segment. not (is_dots segment)) segments

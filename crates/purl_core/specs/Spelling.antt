@@ -1,5 +1,5 @@
 -- Which texts spell a package URL.
-use Rattle.std.specs.Prelude.{◌≡◌, ◌≢◌, ◌==◌, ◌++◌, ◌⊎◌, ◌↔◌, ℕ, Bool, true, false, not, List, [], ◌∷◌, map, filter, Option, Some, None, ⊤, IsUtf8}
+use Rattle.std.specs.Prelude.{◌≡◌, ◌≢◌, ◌==◌, ◌++◌, ◌⊎◌, ◌↔◌, ℕ, true, not, List, [], ◌∷◌, map, filter, Option, Some, None, ⊤, IsUtf8}
 use Rattle.std.specs.List.{AllByRecursion, slice_split}
 use Rattle.vx_text.specs.Escapes.{IsWhole, unescaped}
 use Rattle.vx_text.specs.Folding.{lowered}

@@ -39,7 +39,7 @@ fn version_place(text: &[u8]) -> Option<usize>
     ensures { MatchOption result
         ((i : ℕ) → i < length text.now → slice_index text.now i ≡ 64 → 0 < i → slice_index text.now (i - 1) ≡ 47)
         (λ at. (at < length text.now) × (slice_index text.now at ≡ 64) × (0 < at) × (slice_index text.now (at - 1) ≢ 47)
-            × ((i : ℕ) → at < i → i < length text.now → slice_index text.now i ≡ 64 → slice_index text.now (i - 1) ≡ 47)) }
+        × ((i : ℕ) → at < i → i < length text.now → slice_index text.now i ≡ 64 → slice_index text.now (i - 1) ≡ 47)) }
 {
     'places: for at in (0..text.len()).rev() {
         if counts(text, at) {
@@ -188,6 +188,4 @@ pub(crate) fn cut_raw(text: &[u8]) -> Result<Raw<'_>, CutFault>
 /// No text is written of two lists of raw parts.
 pub fn one_text()
     ensures { (text : List ℕ) (p q : Parts) → IsWritten text p → IsWritten text q → p ≡ q }
-{
-}
-
+{}

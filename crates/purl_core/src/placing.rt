@@ -78,10 +78,7 @@ pub(crate) fn placed_optional(
 }
 
 /// The values of the pieces: what stands behind the first '=' of each.
-pub(crate) fn values<'a>(
-    alloc: Global,
-    pieces: &[Part<'a>],
-) -> Result<Vec<Part<'a>>, AllocError>
+pub(crate) fn values<'a>(alloc: Global, pieces: &[Part<'a>]) -> Result<Vec<Part<'a>>, AllocError>
     requires { AllFit (map part_view pieces.now) }
     ensures { IfOk result (λ v. map part_view v.items ≡ values (map part_view pieces.now)) }
 {
@@ -147,8 +144,10 @@ pub(crate) fn first_not_text(alloc: Global, parts: &[Part]) -> Result<Option<usi
 fn has_key_bytes(text: &[u8]) -> bool
     ensures { result ≡ list_all is_key_byte text.now }
 {
-    text.iter()
-        .all(|byte| byte.is_ascii_alphanumeric() || *byte == b'.' || *byte == b'-' || *byte == b'_')
+    text.iter().all(|byte| byte.is_ascii_alphanumeric()
+        || *byte == b'.'
+        || *byte == b'-'
+        || *byte == b'_')
 }
 
 fn is_key(text: &[u8]) -> bool

@@ -9,7 +9,7 @@ ghost use Rattle.purl_core.specs.Spelling.{SpellsPurl, listed, not_empty, pieces
 ghost use Rattle.purl_core.specs.Cutting.{parts};
 ghost use Rattle.purl_core.specs.Places.{AllPieces, AllText, AllWhole, components, path_at, pieces_of, placed_whole, qualifiers_at, subpath_at, version_at, with_sign};
 ghost use Rattle.purl_core.specs.Placing.{part_view, size};
-ghost use Rattle.purl_core.specs.Reading.{IsReadAs};
+ghost use Rattle.purl_core.specs.Reading.{IsReadAs, RefusedIsUnspelled};
 ghost use Rattle.purl_core.specs.Reads.{IsChecked, IsText, without_dots};
 
 use crate::cutting::{CutFault, Raw, cut_raw};
@@ -162,9 +162,7 @@ fn make(alloc: Global, text: &str, raw: &Raw, pieces: &[Part]) -> Result<Purl, P
     let version = version_text(alloc, raw.version)?;
     let subpath = subpath_texts(alloc, raw.subpath)?;
     match paired(alloc, pieces) {
-        Ok(qualifiers) => Ok(assemble(
-            text, kind, namespace, name, version, qualifiers, subpath,
-        )),
+        Ok(qualifiers) => Ok(assemble(text, kind, namespace, name, version, qualifiers, subpath)),
         Err(fault) => Err(fault),
     }
 }
@@ -288,11 +286,14 @@ fn assemble(
 /// The law that no text spells two package URLs.
 pub fn one_purl()
     ensures { (text : List ℕ) (p q : Package) → SpellsPurl text p → SpellsPurl text q → p ≡ q }
-{
-}
+{}
 
 /// The law that what a text spells has the form of a package URL.
 pub fn spelled_is_valid()
     ensures { (text : List ℕ) (p : Package) → AllByRecursion (λ b. b < 256) text → SpellsPurl text p → IsValid p }
-{
-}
+{}
+
+/// The law that a text which is refused for another cause than want of memory spells no package URL.
+pub fn refused_is_unspelled()
+    ensures { RefusedIsUnspelled }
+{}

@@ -12,11 +12,12 @@ use crate::value::{Pair, Purl};
 use vx_scheme::{NoMemory, Text};
 use vx_text::escape;
 
-/// Appends the text of a package URL. A refused call leaves `out` as it was.
+/// Appends the text of a package URL, which is read again as the same. A refused call leaves `out` as it was.
 pub fn write(purl: &Purl, out: &mut Text) -> Result<(), NoMemory>
     ensures ok { OnOk result (out.new ≡ out.old ++ purl_text purl.now) }
     ensures err { OnErr result (out.new ≡ out.old) }
     ensures valid { IsValid purl.now }
+    ensures again { SpellsPurl (purl_text purl.now) purl.now }
 {
     let mut text = Text::new(out.alloc());
     push_purl(&mut text, purl)?;
@@ -145,5 +146,4 @@ fn push_behind(out: &mut Text, parts: &[Text]) -> Result<(), NoMemory>
 pub fn printed_spells()
     ensures spells { (p : Package) → IsValid p → SpellsPurl (purl_text p) p }
     ensures one { (p q : Package) → IsValid p → IsValid q → purl_text p ≡ purl_text q → p ≡ q }
-{
-}
+{}

@@ -1,8 +1,5 @@
-use Rattle.std.proofs.Common.{sym, ◌∙◌, ap, ◌≡◌, ◌++◌, List, ℕ, true, length, drop, take, eqb, take-append-drop, subst}
-use Rattle.std.specs.List.{prefix_len}
-use Rattle.vx_spec.specs.Marks.{IsCut}
+use Rattle.std.proofs.Common.{sym, ◌≡◌, true, take-append-drop}
 use Rattle.purl_core.specs.Grammar.{is_kind}
-use Rattle.std.specs.Option.{option_copied}
 use Rattle.purl_core.proofs.PartLaws.{type_cut, prefix_within, prefix_slashes}
 use Rattle.purl_core.proofs.cutting.typed.Goals as goal
 

@@ -1,4 +1,3 @@
-use Rattle.std.proofs.Common.{rules}
 use Rattle.purl_core.proofs.Cuts.{version_none, version_some}
 use Rattle.purl_core.proofs.cutting.version_cut.Goals as goal
 

@@ -1,5 +1,4 @@
-use Rattle.std.proofs.Common.{rules, ◌≡◌, ◌≢◌, ◌<◌, ◌-◌, ℕ, length, slice_index, arith, subst, sym, inl, inr}
-use Rattle.std.proofs.lemmas.Bool.{cases_eq, cases_lt}
+use Rattle.std.proofs.Common.{arith}
 use Rattle.purl_core.proofs.Cuts.{last_step}
 use Rattle.purl_core.proofs.cutting.version_place.Goals as goal
 

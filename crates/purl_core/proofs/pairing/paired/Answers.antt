@@ -1,5 +1,4 @@
-use Rattle.std.proofs.Common.{◌≡◌, ◌<◌, ◌≤◌, ◌+◌, ◌++◌, ℕ, zero, suc, List, [], ◌∷◌, map, drop, get_or, length, refl, ap, subst, true, false, arith}
-use Rattle.std.specs.List.{AllByRecursion}
+use Rattle.std.proofs.Common.{◌<◌, ◌+◌, ◌++◌, ℕ, List, [], ◌∷◌, map, drop, get_or, length, subst}
 use Rattle.std.proofs.lemmas.List.{drop_all, drop_more}
 use Rattle.purl_core.specs.Places.{AllPieces, AllText, HasPiece, value_in, values}
 use Rattle.purl_core.specs.Placing.{part_view}

@@ -1,8 +1,5 @@
-use Rattle.std.proofs.Common.{List, ℕ, map, ◌≡◌, []}
-use Rattle.std.proofs.lemmas.Result.{IfOk-weaker}
-use Rattle.purl_core.specs.Pairing.{entry_view}
-use Rattle.purl_core.specs.Placing.{part_view}
-use Rattle.purl_core.proofs.SoFar.{key_text, puts_none, puts_some, value_text}
+use Rattle.std.proofs.Common.{List, ℕ}
+use Rattle.purl_core.proofs.SoFar.{key_text, value_text}
 use Rattle.purl_core.proofs.pairing.put_piece.Goals as goal
 
 pub put_pair-requires-clause-key : goal.put_pair-requires-clause-key

@@ -1,4 +1,4 @@
-use Rattle.std.proofs.Common.{◌≡◌, ℕ, drop, map}
+use Rattle.std.proofs.Common.{ℕ, drop, map}
 use Rattle.purl_core.specs.Places.{IsEscapeAt, AllWhole}
 use Rattle.purl_core.specs.Placing.{part_view, AllFit}
 use Rattle.purl_core.proofs.placing.first_escape.Given as goal

@@ -1,7 +1,5 @@
-use Rattle.std.proofs.Common.{◌≡◌, ◌∙◌, ◌++◌, sym, Option, Some, None, List, ℕ, true, refl}
-use Rattle.vx_spec.proofs.MarkLaws.{one_cut}
+use Rattle.std.proofs.Common.{◌≡◌, true}
 use Rattle.purl_core.specs.Value.{is_key}
-use Rattle.purl_core.proofs.OneValue.{key_lacks}
 use Rattle.purl_core.proofs.Pieces.{piece_at}
 use Rattle.purl_core.proofs.placing.piece_cut.Goals as goal
 

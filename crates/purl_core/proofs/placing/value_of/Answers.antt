@@ -1,4 +1,3 @@
-use Rattle.std.proofs.Common.{Some, None}
 use Rattle.purl_core.proofs.Splits.{value_cut, value_uncut}
 use Rattle.purl_core.proofs.placing.value_of.Goals as goal
 

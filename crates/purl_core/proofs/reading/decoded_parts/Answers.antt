@@ -23,7 +23,7 @@ loop-part-preserved c =
     elim c.if-not-is_empty.branch [
       | then-not-is_empty+in_ok-decoded+in_ok-push w ↦
           let is : c.if-not-is_empty.texts ≡ texts ++ unescaped part ∷ [] =
-              w.texts-is ∙ w.in_ok-push.ensures.ok ∙ ap (λ (t : List ℕ). texts ++ t ∷ []) w.in_ok-decoded.ensures in
+          w.texts-is ∙ w.in_ok-push.ensures.ok ∙ ap (λ (t : List ℕ). texts ++ t ∷ []) w.in_ok-decoded.ensures in
           subst (λ ts. IsLeft ts left all) (sym is) (keeps texts part left all (some_if part c.is_empty.result c.is_empty.ensures w.if-not-is_empty.true) before)
       | else-not-is_empty w ↦
           subst (λ ts. IsLeft ts left all) (sym w.texts-is) (skips texts part left all (none_if part c.is_empty.result c.is_empty.ensures w.if-not-is_empty.false) before)

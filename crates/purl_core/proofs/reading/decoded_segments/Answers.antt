@@ -1,4 +1,4 @@
-use Rattle.std.proofs.Common.{◌≡◌, ◌+◌, ◌++◌, ◌∷◌, ◌∙◌, [], List, ℕ, Bor, Bool, ap, sym, subst, map, drop, get_or}
+use Rattle.std.proofs.Common.{◌≡◌, ◌+◌, ◌++◌, ◌∷◌, ◌∙◌, [], List, ℕ, Bor, ap, sym, subst, map, drop, get_or}
 use Rattle.std.proofs.lemmas.List.{drop_more}
 use Rattle.vx_text.specs.Escapes.{unescaped}
 use Rattle.purl_core.specs.Grammar.{kept}
@@ -26,14 +26,14 @@ loop-part-preserved c =
       | then-not-is_empty+in_ok-text+then-not-is_dots+in_ok-push w ↦
           let some = some_if part c.is_empty.result c.is_empty.ensures w.if-not-is_empty.true in
           let plain : is_dots (unescaped part) ≡ w.is_dots.result =
-              sym (w.is_dots.ensures ∙ ap is_dots (w.as_bytes.ensures.value ∙ w.as_str.ensures ∙ w.in_ok-text.ensures)) in
+          sym (w.is_dots.ensures ∙ ap is_dots (w.as_bytes.ensures.value ∙ w.as_str.ensures ∙ w.in_ok-text.ensures)) in
           let is : c.if-not-is_empty.texts ≡ texts ++ unescaped part ∷ [] =
-              w.texts-is ∙ w.in_ok-push.ensures.ok ∙ ap (λ (t : List ℕ). texts ++ t ∷ []) w.in_ok-text.ensures in
+          w.texts-is ∙ w.in_ok-push.ensures.ok ∙ ap (λ (t : List ℕ). texts ++ t ∷ []) w.in_ok-text.ensures in
           subst (λ ts. IsSegmentLeft ts left all) (sym is) (keeps_segment texts part left all some (plain ∙ w.if-not-is_dots.true) before)
       | then-not-is_empty+in_ok-text+else-not-is_dots w ↦
           let some = some_if part c.is_empty.result c.is_empty.ensures w.if-not-is_empty.true in
           let plain : is_dots (unescaped part) ≡ w.is_dots.result =
-              sym (w.is_dots.ensures ∙ ap is_dots (w.as_bytes.ensures.value ∙ w.as_str.ensures ∙ w.in_ok-text.ensures)) in
+          sym (w.is_dots.ensures ∙ ap is_dots (w.as_bytes.ensures.value ∙ w.as_str.ensures ∙ w.in_ok-text.ensures)) in
           subst (λ ts. IsSegmentLeft ts left all) (sym w.texts-is) (drops_segment texts part left all some (plain ∙ w.if-not-is_dots.false) before)
       | else-not-is_empty w ↦
           subst (λ ts. IsSegmentLeft ts left all) (sym w.texts-is) (skips_segment texts part left all (none_if part c.is_empty.result c.is_empty.ensures w.if-not-is_empty.false) before)

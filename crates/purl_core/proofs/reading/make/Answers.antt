@@ -1,10 +1,10 @@
-use Rattle.std.proofs.Common.{subst, sym, ◌∙◌, map, Ok, Err}
+use Rattle.std.proofs.Common.{subst, sym, ◌∙◌, map, Ok}
 use Rattle.purl_core.specs.Cutting.{parts}
 use Rattle.purl_core.specs.Places.{AllText, values}
 use Rattle.purl_core.specs.Value.{pair_view}
 use Rattle.purl_core.specs.Pairing.{IsPaired}
 use Rattle.purl_core.specs.Reads.{IsText}
-use Rattle.purl_core.proofs.Assembled.{each_path, each_segment, each_value, each_version, kind_text, refused_by_pairs, spelled}
+use Rattle.purl_core.proofs.Assembled.{each_path, each_segment, each_value, each_version, kind_text, spelled}
 use Rattle.purl_core.proofs.reading.make.Goals as goal
 
 pub low_kind-requires : goal.low_kind-requires

@@ -1,4 +1,4 @@
-use Rattle.std.proofs.Common.{map, List, ℕ, subst, sym, ap}
+use Rattle.std.proofs.Common.{map, List, subst, sym}
 use Rattle.purl_core.specs.declared.value.Pair.{Pair}
 use Rattle.purl_core.specs.Value.{IsAboveLast, pair_view}
 use Rattle.purl_core.proofs.Ascending.{ascending_push}
