@@ -9,6 +9,7 @@ use Rattle.vx_scheme.specs.declared.ident.Ident.{Ident}
 use Rattle.vx_scheme.specs.declared.ident.Ident.TheVariants.{Number, Word}
 use Rattle.npm_scheme.specs.Order.{entry, entry_cmp}
 
+-- one more on both sides
 shifted : (a b : ℕ) (r : Ordering) → MatchOrdering r (a < b) (a ≡ b) (b < a) → MatchOrdering r (suc a < suc b) (suc a ≡ suc b) (suc b < suc a)
 shifted a b Less h = omega arith
 shifted a b Equal h = omega arith
@@ -18,6 +19,7 @@ shifted a b Greater h = omega arith
 both_more : (a b : ℕ) → nat_cmp a b ≡ nat_cmp (suc a) (suc b)
 both_more a b = nat_cmp_is (suc a) (suc b) (nat_cmp a b) (shifted a b (nat_cmp a b) (ranks a b))
 
+-- where the first list is through, what is left compares as the lengths do
 pub ended : (n : ℕ) (xs ys : List Ident) → length xs ≤ n → n ≤ length xs → n ≤ length ys
     → rows_cmp entry_cmp [] (map entry (drop n xs)) (map entry (drop n ys)) ≡ nat_cmp (length xs) (length ys)
 ended zero [] [] p q r = refl

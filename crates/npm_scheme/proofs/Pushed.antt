@@ -7,17 +7,21 @@ use Rattle.vx_scheme.specs.declared.ident.Ident.{Ident}
 use Rattle.npm_scheme.specs.Spelling.{tail}
 use Rattle.npm_scheme.specs.Writing.{identifier_text, sign_before}
 
+-- a text more at the end of joined texts
 join_push : (x : List ℕ) (xs : List (List ℕ)) (y : List ℕ) → join_with_byte 46 (x ∷ (xs ++ y ∷ [])) ≡ join_with_byte 46 (x ∷ xs) ++ 46 ∷ y
 join_push x [] y = refl
 join_push x (w ∷ ws) y = ap (λ (r : List ℕ). x ++ 46 ∷ r) (join_push w ws y) ∙ sym (append_assoc x (46 ∷ join_with_byte 46 (w ∷ ws)) (46 ∷ y))
 
+-- a text more at the end of a pre-release
 tail_push : (xs : List (List ℕ)) (y : List ℕ) → tail 45 (xs ++ y ∷ []) ≡ tail 45 xs ++ sign_before (length xs) ∷ y
 tail_push [] y = refl
 tail_push (x ∷ xs) y = rw (ne_eqb (suc (length xs)) 0 (omega arith)) (ap (λ (r : List ℕ). 45 ∷ r) (join_push x xs y))
 
+-- the texts of identifiers
 abbrev texts : List Ident → List (List ℕ)
 texts pre = map identifier_text pre
 
+-- the identifier at a place is appended behind its sign
 pub pushed : (start out out' out'' : List ℕ) (pre : List Ident) (i : ℕ) (x : Ident) → i < length pre → x ≡ get_or pre i x
     → out ≡ start ++ tail 45 (map identifier_text (take i pre)) → out' ≡ out ++ sign_before i ∷ []
     → out'' ≡ out' ++ identifier_text x

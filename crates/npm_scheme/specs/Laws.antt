@@ -16,14 +16,15 @@ use Rattle.npm_scheme.specs.Writing.{identifier_text, normal}
 use Rattle.npm_scheme.specs.Order.{order_of, order_total}
 use Rattle.npm_scheme.specs.Unique.{one_reading, split_join, identifiers_lack, build_bytes}
 
-no_zero : (n : ℕ) → has_leading_zero (numeral_text n) ≡ false
-no_zero n = elim (cases_Bool (eqb (get_or (numeral_text n) 0 0) 48)) [
+-- the numeral of a number has no leading zeros
+pub has_leading_zero-numeral_text : (n : ℕ) → has_leading_zero (numeral_text n) ≡ false
+has_leading_zero-numeral_text n = elim (cases_Bool (eqb (get_or (numeral_text n) 0 0) 48)) [
   | inl zero' ↦ rw (zero', le-ltb 1 (length (numeral_text n)) (omega (arith, numeral_text_first n (eqb-true _ _ zero')))) refl
   | inr other ↦ rw other refl
 ]
 
-plain : (n : ℕ) → is_plain_numeral (numeral_text n) ≡ true
-plain n = and_from _ _ (numeral_text_is n) (not_from_false _ (no_zero n))
+pub is_plain_numeral-numeral_text : (n : ℕ) → is_plain_numeral (numeral_text n) ≡ true
+is_plain_numeral-numeral_text n = and_from _ _ (numeral_text_is n) (not_from_false _ (has_leading_zero-numeral_text n))
 
 digit_byte : (b : ℕ) → is_ascii_digit b ≡ true → is_identifier_byte b ≡ true
 digit_byte b d = rw d refl
@@ -36,7 +37,7 @@ digit_bytes (b ∷ t) all = let a = and_parts _ _ all in and_from _ _ (digit_byt
 again : (i : Ident) → is_ident i ≡ true → (is_pre_identifier (identifier_text i) ≡ true) × (identifier_of (identifier_text i) ≡ i)
 again (Number n) is =
     let parts = and_parts _ _ (numeral_text_is n) in
-    (and_from _ _ (and_from _ _ parts.0 (digit_bytes (numeral_text n) parts.1)) (rw (numeral_text_is n, no_zero n) refl), rw (numeral_text_is n, value-numeral_text n) refl)
+    (and_from _ _ (and_from _ _ parts.0 (digit_bytes (numeral_text n) parts.1)) (rw (numeral_text_is n, has_leading_zero-numeral_text n) refl), rw (numeral_text_is n, value-numeral_text n) refl)
 again (Word w) is =
     let parts = and_parts (is_build_identifier w) (not (is_numeral w)) is in
     let other = not-true (is_numeral w) parts.1 in
@@ -86,7 +87,7 @@ parts_with v build = record { major = numeral_text v.major; minor = numeral_text
 
 with_form : (v : Fields) (build : List (List ℕ)) → IsVersion v → list_all is_build_identifier build ≡ true → HasForm (parts_with v build)
 unfolding parts_with
-with_form v build is all = record { major = plain v.major; minor = plain v.minor; patch = plain v.patch; pre = (all_again v.pre is.pre).0; build = all }
+with_form v build is all = record { major = is_plain_numeral-numeral_text v.major; minor = is_plain_numeral-numeral_text v.minor; patch = is_plain_numeral-numeral_text v.patch; pre = (all_again v.pre is.pre).0; build = all }
 
 pub version_spelled : (v : Fields) → IsVersion v → IsSpelled Spells v
 unfolding parts_with

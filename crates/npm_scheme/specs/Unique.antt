@@ -12,13 +12,13 @@ use Rattle.npm_scheme.specs.Written.{pieces}
 use Rattle.npm_scheme.specs.Spelling.{Parts, HasForm, Spells, version_of, core, tail, whole, is_plain_numeral, is_pre_identifier}
 
 -- what passes a test that the byte fails lacks the byte
-lacks_by : (test : ℕ → Bool) (c : ℕ) (text : List ℕ) → test c ≡ false → list_all test text ≡ true → Lacks c text
+pub lacks_by : (test : ℕ → Bool) (c : ℕ) (text : List ℕ) → test c ≡ false → list_all test text ≡ true → Lacks c text
 lacks_by test c [] fails all = tt
 lacks_by test c (b ∷ text) fails all =
     let a = and_parts _ _ all in
     ((λ e. false≢true (sym fails ∙ sym (ap test e) ∙ a.0)), lacks_by test c text fails a.1)
 
-lacks_append : (c : ℕ) (a b : List ℕ) → Lacks c a → Lacks c b → Lacks c (a ++ b)
+pub lacks_append : (c : ℕ) (a b : List ℕ) → Lacks c a → Lacks c b → Lacks c (a ++ b)
 lacks_append c [] b p q = q
 lacks_append c (x ∷ a) b p q = (p.0, lacks_append c a b p.1 q)
 
@@ -26,7 +26,7 @@ pub numeral_lacks : (c : ℕ) (text : List ℕ) → is_ascii_digit c ≡ false �
 numeral_lacks c text fails is = lacks_by is_ascii_digit c text fails (and_parts _ _ (and_parts _ _ is).0).1
 
 -- each part lacks the byte, and the sign between them is another
-join_lacks : (c : ℕ) (xs : List (List ℕ)) → 46 ≢ c → AllByRecursion (Lacks c) xs → Lacks c (join_with_byte 46 xs)
+pub join_lacks : (c : ℕ) (xs : List (List ℕ)) → 46 ≢ c → AllByRecursion (Lacks c) xs → Lacks c (join_with_byte 46 xs)
 join_lacks c [] other all = tt
 join_lacks c (x ∷ []) other all = all.0
 join_lacks c (x ∷ y ∷ xs) other all = lacks_append c x _ all.0 (other, join_lacks c (y ∷ xs) other all.1)
@@ -42,7 +42,7 @@ identifiers_lack test c fails bytes (x ∷ xs) all =
 pub build_bytes : (t : List ℕ) → is_build_identifier t ≡ true → list_all is_identifier_byte t ≡ true
 build_bytes t is = (and_parts _ _ is).1
 
-pre_bytes : (t : List ℕ) → is_pre_identifier t ≡ true → list_all is_identifier_byte t ≡ true
+pub pre_bytes : (t : List ℕ) → is_pre_identifier t ≡ true → list_all is_identifier_byte t ≡ true
 pre_bytes t is = build_bytes t (and_parts _ _ is).0
 
 -- a part as the program holds it
@@ -76,12 +76,12 @@ pub record Found (p : Parts) (core' : List ℕ) (pre build : Option (List ℕ)) 
   pub pre_pieces : pieces pre ≡ p.pre
   pub build_pieces : pieces build ≡ p.build
 
-core_lacks : (c : ℕ) (p : Parts) → is_ascii_digit c ≡ false → 46 ≢ c → HasForm p → Lacks c (core p.major p.minor p.patch)
+pub core_lacks : (c : ℕ) (p : Parts) → is_ascii_digit c ≡ false → 46 ≢ c → HasForm p → Lacks c (core p.major p.minor p.patch)
 core_lacks c p fails other form =
     lacks_append c p.major _ (numeral_lacks c p.major fails form.major)
     (other, lacks_append c p.minor _ (numeral_lacks c p.minor fails form.minor) (other, numeral_lacks c p.patch fails form.patch))
 
-tail_lacks : (c mark : ℕ) (xs : List (List ℕ)) → mark ≢ c → Lacks c (join_with_byte 46 xs) → Lacks c (tail mark xs)
+pub tail_lacks : (c mark : ℕ) (xs : List (List ℕ)) → mark ≢ c → Lacks c (join_with_byte 46 xs) → Lacks c (tail mark xs)
 tail_lacks c mark [] other h = tt
 tail_lacks c mark (x ∷ xs) other h = (other, h)
 

@@ -4,6 +4,8 @@
 mod order;
 mod scheme;
 mod spelling;
+#[cfg(test)]
+mod tests;
 mod version;
 mod writing;
 

@@ -6,6 +6,7 @@ use std::cmp::Ordering;
 use vx_scheme::{NoMemory, Scheme, SchemeName, Text, VersionFault};
 
 /// The scheme of npm.
+#[derive(Debug, Clone, Copy)]
 pub struct Npm;
 
 impl Scheme for Npm {

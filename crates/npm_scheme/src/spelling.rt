@@ -14,7 +14,7 @@ use vx_scheme::{Ident, Idents, NoMemory, Text, VersionFault};
 use vx_text::{cut, is_numeral, numeral, parts};
 
 /// The parts of a version's text, as they are written.
-#[derive(Drop)]
+#[derive(Debug, Clone, Copy)]
 pub struct Written<'a> {
     /// The first numeral.
     pub major: &'a str,
@@ -34,10 +34,10 @@ pub(crate) fn read(alloc: Global, text: &str) -> Result<NpmVersion, VersionFault
     ensures ok { IfOk result (λ v. Spells text.now v × Fits v) }
     ensures err { IfErr result (Refuses Spells Fits text.now) }
 {
-    match take_apart(text) {
-        Some(written) => valued(alloc, &written),
-        None => Err(VersionFault::NotAVersion),
-    }
+    let Some(written) = take_apart(text) else {
+        return Err(VersionFault::NotAVersion);
+    };
+    valued(alloc, &written)
 }
 
 /// The parts of a version's text, each of which has its form; `None` exactly where the text has no such parts. It

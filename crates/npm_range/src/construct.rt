@@ -1,0 +1,48 @@
+use npm_scheme::NpmVersion;
+use vx_scheme::List;
+
+/// An operator of npm's range language.
+#[derive(Debug, Clone, Copy, PartialEq, Eq)]
+pub enum Operator {
+    /// Nothing, or `=`.
+    Equal,
+    /// `<`
+    Less,
+    /// `<=`, and the upper side of a hyphen range.
+    LessEqual,
+    /// `>`
+    Greater,
+    /// `>=`, and the lower side of a hyphen range.
+    GreaterEqual,
+    /// `~` or `~>`
+    Tilde,
+    /// `^`
+    Caret,
+}
+
+/// A version of which the last numbers may be left out.
+#[derive(Debug, Drop)]
+pub enum Partial {
+    /// `x`: no number.
+    Any,
+    /// `M`: the first number alone.
+    Major(u128),
+    /// `M.m`: the first two numbers.
+    Minor(u128, u128),
+    /// `M.m.p`, with its pre-release; the build is left out.
+    Full(NpmVersion),
+}
+
+/// An operator with its partial, and where it begins: a byte offset from 0 in the range text.
+#[derive(Debug, Drop)]
+pub struct Construct {
+    /// How a version has to compare.
+    pub operator: Operator,
+    /// What it is compared with.
+    pub partial: Partial,
+    /// Where the construct begins.
+    pub at: usize,
+}
+
+/// The constructs of each alternative, from left to right.
+pub type Constructs = List<List<Construct>>;

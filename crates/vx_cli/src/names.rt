@@ -1,0 +1,73 @@
+ghost use Rattle.std.specs.Prelude.{◌≡◌};
+ghost use Rattle.vx_cli.specs.Answers.{scheme_named, domain_named, end_kind_text, part_text, back_kind_text};
+
+use vx_scheme::{Domain, EndKind, SchemeName};
+use vx_translate::{BackKind, VersPart, default_domain};
+
+/// The scheme of this name.
+pub fn scheme_named(text: &str) -> Option<SchemeName>
+    ensures { result ≡ scheme_named text.now }
+{
+    match text {
+        "npm" => Some(SchemeName::Npm),
+        "pypi" => Some(SchemeName::Pypi),
+        "maven" => Some(SchemeName::Maven),
+        "gem" => Some(SchemeName::Gem),
+        "deb" => Some(SchemeName::Deb),
+        "rpm" => Some(SchemeName::Rpm),
+        "nuget" => Some(SchemeName::Nuget),
+        "cargo" => Some(SchemeName::Cargo),
+        _ => None,
+    }
+}
+
+/// The domain that the text names; `-` is the scheme's default.
+pub fn domain_named(name: SchemeName, text: &str) -> Option<Domain>
+    ensures { result ≡ domain_named name text.now }
+{
+    match text {
+        "all" => Some(Domain::All),
+        "releases" => Some(Domain::Releases),
+        "-" => Some(default_domain(name)),
+        _ => None,
+    }
+}
+
+/// The kind of an end that a domain lacks, as it stands in an answer line.
+pub fn end_kind_text(kind: EndKind) -> &'static str
+    ensures { result.now ≡ end_kind_text kind }
+{
+    match kind {
+        EndKind::GreaterThanFinal => "GreaterThanFinal",
+        EndKind::Twiddle => "Twiddle",
+        EndKind::NoRelease => "NoRelease",
+        EndKind::ArbitraryEquality => "ArbitraryEquality",
+    }
+}
+
+/// The part of a VERS text that is refused, as it stands in an answer line.
+pub fn part_text(part: VersPart) -> &'static str
+    ensures { result.now ≡ part_text part }
+{
+    match part {
+        VersPart::Head => "Head",
+        VersPart::Constraint => "Constraint",
+        VersPart::Version => "Version",
+        VersPart::Duplicate => "Duplicate",
+        VersPart::StarNotAlone => "StarNotAlone",
+        VersPart::Numeral => "Numeral",
+    }
+}
+
+/// Why spans have no native text, as it stands in an answer line.
+pub fn back_kind_text(kind: BackKind) -> &'static str
+    ensures { result.now ≡ back_kind_text kind }
+{
+    match kind {
+        BackKind::NotOneInterval => "NotOneInterval",
+        BackKind::PointHole => "PointHole",
+        BackKind::LocalBound => "LocalBound",
+        BackKind::LocalsApart => "LocalsApart",
+        BackKind::NothingInDomain => "NothingInDomain",
+    }
+}

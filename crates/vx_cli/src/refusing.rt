@@ -1,0 +1,80 @@
+ghost use Rattle.std.specs.Prelude.{◌≡◌, ◌++◌, false, IfOk, codes};
+ghost use Rattle.vx_spec.specs.Numerals.{numeral_text};
+ghost use Rattle.vx_cli.specs.Answers.{refusal_line};
+
+use crate::names::{back_kind_text, end_kind_text, part_text};
+use crate::reply::Answer;
+use std::alloc::Global;
+use vx_scheme::{NoMemory, Text};
+use vx_translate::Refusal;
+
+/// The answer that a line is refused with this text.
+pub fn refused(alloc: Global, line: &str) -> Result<Answer, NoMemory>
+    ensures { IfOk result (λ a. (a.ok ≡ false) × (a.text ≡ line.now)) }
+{
+    let mut text = Text::new(alloc);
+    text.push_str(line)?;
+    Ok(Answer { ok: false, text })
+}
+
+// The beginning of a line, and a place.
+fn placed(alloc: Global, front: &str, at: u128) -> Result<Text, NoMemory>
+    ensures { IfOk result (λ text. text ≡ front.now ++ numeral_text at) }
+{
+    let mut text = Text::new(alloc);
+    text.push_str(front)?;
+    text.push_number(at)?;
+    Ok(text)
+}
+
+// The beginning of a line, a kind or part, and a place.
+fn kind_placed(alloc: Global, front: &str, kind: &str, at: u128) -> Result<Text, NoMemory>
+    ensures { IfOk result (λ text. text ≡ (front.now ++ kind.now) ++ (codes " " ++ numeral_text at)) }
+{
+    let mut text = Text::new(alloc);
+    text.push_str(front)?;
+    text.push_str(kind)?;
+    text.push_str(" ")?;
+    text.push_number(at)?;
+    Ok(text)
+}
+
+fn plain(alloc: Global, line: &str) -> Result<Text, NoMemory>
+    ensures { IfOk result (λ text. text ≡ line.now) }
+{
+    let mut text = Text::new(alloc);
+    text.push_str(line)?;
+    Ok(text)
+}
+
+// The line of a refusal. Want of memory has none.
+fn line_of(alloc: Global, refusal: Refusal) -> Result<Text, NoMemory>
+    ensures { IfOk result (λ text. text ≡ refusal_line refusal) }
+{
+    match refusal {
+        Refusal::DomainNotOffered => plain(alloc, "no\t6 DomainNotOffered\t-"),
+        Refusal::Syntax(at) => placed(alloc, "no\t7 Syntax\t", at as u128),
+        Refusal::Numeral(at) => placed(alloc, "no\t8 Numeral\t", at as u128),
+        Refusal::NoEndpoint(kind, at) => {
+            kind_placed(alloc, "no\t9 NoEndpoint\t", end_kind_text(kind), at as u128)
+        }
+        Refusal::Empty => plain(alloc, "no\t10 Empty\t-"),
+        Refusal::BadVers(part, k) => {
+            kind_placed(alloc, "no\t11 BadVers\t", part_text(part), k as u128)
+        }
+        Refusal::BadVersion => plain(alloc, "no\t12 BadVersion\t-"),
+        Refusal::NoNative(kind, k) => {
+            kind_placed(alloc, "no\t13 NoNative\t", back_kind_text(kind), k as u128)
+        }
+        Refusal::NotBuilt => plain(alloc, "no\t0 NotBuilt\t-"),
+        Refusal::NoMemory => Err(NoMemory),
+    }
+}
+
+/// The answer that a line is refused so. Want of memory has no line.
+pub fn refused_by(alloc: Global, refusal: Refusal) -> Result<Answer, NoMemory>
+    ensures { IfOk result (λ a. (a.ok ≡ false) × (a.text ≡ refusal_line refusal)) }
+{
+    let text = line_of(alloc, refusal)?;
+    Ok(Answer { ok: false, text })
+}

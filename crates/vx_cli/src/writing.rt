@@ -1,0 +1,37 @@
+ghost use Rattle.std.specs.Prelude.{◌≡◌, IfOk, IsErrOf};
+ghost use Rattle.std.specs.Io.KnownBytes.{Appends};
+ghost use Rattle.vx_cli.specs.Outside.{Rose, AppendsFront};
+ghost use Rattle.vx_cli.specs.Runs.{line_of};
+
+use crate::outside::{Failed, Sink, write_whole};
+use crate::reply::Answer;
+use thiserror::Error;
+
+/// Why an answer was not written whole.
+#[derive(Clone, Copy, Debug, PartialEq, Eq, Error)]
+pub enum PutFault {
+    /// A write failed.
+    #[error("Failed")]
+    Failed,
+    /// No memory was found.
+    #[error("NoMemory")]
+    NoMemory,
+}
+
+/// Writes the answer line and its line feed, and says whether it is an accepted line's.
+pub fn put_line<W: Sink>(answer: Answer, sink: &mut W) -> Result<bool, PutFault>
+    ensures whole { IfOk result (λ ok. (ok ≡ answer.ok)
+        × Appends (W.held sink.old) (W.held sink.new) (line_of answer.text)
+        × (W.faults sink.new ≡ W.faults sink.old)) }
+    ensures front { AppendsFront (W.held sink.old) (W.held sink.new) (line_of answer.text) }
+    ensures write { IsErrOf result PutFault.Failed → Rose (W.faults sink.old) (W.faults sink.new) }
+{
+    let Answer { ok, mut text } = answer;
+    if text.push_str("\n").is_err() {
+        return Err(PutFault::NoMemory);
+    }
+    match write_whole(sink, text.as_str().as_bytes()) {
+        Ok(()) => Ok(ok),
+        Err(Failed) => Err(PutFault::Failed),
+    }
+}

@@ -1,0 +1,3 @@
+pub mod Joined
+pub mod Operations
+pub mod Sets

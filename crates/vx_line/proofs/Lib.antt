@@ -1,0 +1,11 @@
+pub mod Above
+pub mod Changing
+pub mod InOrder
+pub mod Judging
+pub mod Keeping
+pub mod LeastLaws
+pub mod MergedLaws
+pub mod Merging
+pub mod PlaceLaws
+pub mod Turns
+pub mod Unique

@@ -1,0 +1,5 @@
+//! Tests of the lists of sets, at a small scheme.
+#![tactic(auto)]
+
+#[cfg(test)]
+mod tests;

@@ -1,0 +1,4 @@
+pub mod Domains
+pub mod Forward
+pub mod Refusals
+pub mod ToVers

@@ -1,0 +1,40 @@
+ghost use Rattle.std.specs.Prelude.{◌≡◌, ◌≢◌, IfOk, IfErr};
+ghost use Rattle.vx_scheme.specs.Domains.{InDomain};
+ghost use Rattle.vx_translate.specs.declared.refusal.Refusal.TheVariants as refusal_of;
+ghost use Rattle.vx_translate.specs.Forward.{Translates, HoldsSame, Refuses};
+
+use crate::refusal::Refusal;
+use std::alloc::Global;
+use vx_interval::Set;
+use vx_scheme::{Domain, Native, Text};
+use vx_simplify::{FromSet, from_set};
+use vx_vers::write;
+
+/// The VERS text of a range text in a domain.
+pub(crate) fn translate<N: Native>(
+    alloc: Global,
+    domain: Domain,
+    text: &str,
+) -> Result<Text, Refusal>
+    ensures ok { IfOk result (Translates N.order N.name N.normal (N.Makes domain) text.now) }
+    ensures members { IfOk result (HoldsSame N.order N.IsVersion (InDomain N.Scheme domain) N.name N.normal N.In text.now) }
+    ensures err { IfErr result (λ refusal. refusal ≢ refusal_of.NoMemory → Refuses N.order (N.Offers domain) (N.Makes domain) (N.Refuses domain) text.now refusal) }
+    ensures empty { result ≡ Err Refusal.Empty → (v : N.Version) → N.IsVersion v → InDomain N.Scheme domain v → ¬ (N.In text.now v) }
+{
+    if !N::offers(domain) {
+        return Err(Refusal::DomainNotOffered);
+    }
+    let bounds = match N::bounds(alloc, text, domain) {
+        Ok(bounds) => bounds,
+        Err(fault) => return Err(Refusal::from(fault)),
+    };
+    let set = Set::<N>::from_bounds(alloc, bounds)?;
+    let list = match from_set::<N>(alloc, set) {
+        Ok(list) => list,
+        Err(FromSet::Empty) => return Err(Refusal::Empty),
+        Err(FromSet::NoMemory) => return Err(Refusal::NoMemory),
+    };
+    let mut out = Text::new(alloc);
+    write::<N>(&list, &mut out)?;
+    Ok(out)
+}
