@@ -6,6 +6,7 @@ use Rattle.purl_core.specs.declared.cutting.Raw.{Raw}
 use Rattle.purl_core.specs.declared.cutting.CutFault.{CutFault}
 use Rattle.purl_core.specs.declared.cutting.CutFault.TheVariants.{Scheme, BadType, Name}
 
+-- the raw parts that the program holds
 abbrev pub parts : Raw → Parts
 parts r = record {
   scheme = r.scheme.now;

@@ -39,15 +39,19 @@ with_sign (Some part) = length part + 1
 
 -- ---- where the parts of a written text begin
 
+-- behind the scheme and its ':', the slashes, and the type and its '/'
 abbrev pub path_at : Parts → ℕ
 path_at p = length p.scheme + 1 + length p.slashes + length p.kind + 1
 
+-- behind the path and the '@'
 abbrev pub version_at : Parts → ℕ
 version_at p = path_at p + length p.path + 1
 
+-- behind the path, the version and the '?'
 abbrev pub qualifiers_at : Parts → ℕ
 qualifiers_at p = path_at p + length p.path + with_sign p.version + 1
 
+-- behind the path, the version, the qualifiers and the '#'
 abbrev pub subpath_at : Parts → ℕ
 subpath_at p = path_at p + length p.path + with_sign p.version + with_sign p.qualifiers + 1
 
@@ -87,6 +91,7 @@ NoPiece piece = (pair : List ℕ × List ℕ) → ¬ (IsPiece piece pair)
 abbrev pub HasPiece : List ℕ → Type 0
 HasPiece piece = (pair : List ℕ × List ℕ) × IsPiece piece pair
 
+-- each piece is one
 abbrev pub AllPieces : List (ℕ × List ℕ) → Type 0
 AllPieces [] = ⊤
 AllPieces (piece ∷ pieces) = HasPiece piece.1 × AllPieces pieces

@@ -13,6 +13,7 @@ use Rattle.purl_core.specs.declared.value.Pair.{Pair}
 abbrev pub pair_view : Pair → List ℕ × List ℕ
 pair_view pair = (pair.key, pair.value)
 
+-- the components of a package URL, all decoded
 pub record Package : Type 0 where
   pub kind : List ℕ
   pub namespace : List (List ℕ)
@@ -58,6 +59,7 @@ Ascending (x ∷ xs) = AllByRecursion (λ (y : List ℕ × List ℕ). slice_cmp 
 abbrev pub IsAboveLast : List (List ℕ × List ℕ) → List ℕ → Type 0
 IsAboveLast pairs key = (front : List (List ℕ × List ℕ)) (last : List ℕ × List ℕ) → pairs ≡ front ++ last ∷ [] → slice_cmp nat_cmp last.0 key ≡ Less
 
+-- a version that is there is not empty
 abbrev pub IsVersion : Option (List ℕ) → Type 0
 IsVersion None = ⊤
 IsVersion (Some version) = IsPart version

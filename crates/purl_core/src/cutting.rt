@@ -3,7 +3,7 @@ ghost use Rattle.std.specs.Option.{option_copied};
 ghost use Rattle.std.specs.List.{list_all, list_any, prefix_len};
 ghost use Rattle.vx_spec.specs.Marks.{IsCut};
 ghost use Rattle.purl_core.specs.Cuts.{IsLastCut, IsVersionCut};
-ghost use Rattle.purl_core.specs.Grammar.{is_kind_byte, is_kind, IsEnded, HasScheme, HasType, HasSegment, Parts, IsWritten};
+ghost use Rattle.purl_core.specs.Grammar.{is_kind_byte, is_kind, IsEnded, HasScheme, HasType, HasSegment};
 ghost use Rattle.purl_core.specs.Cutting.{IsCutAs};
 
 /// The text before the last mark, and the text behind it.
@@ -184,8 +184,3 @@ pub(crate) fn cut_raw(text: &[u8]) -> Result<Raw<'_>, CutFault>
         Err(CutFault::Name)
     }
 }
-
-/// No text is written of two lists of raw parts.
-pub fn one_text()
-    ensures { (text : List ℕ) (p q : Parts) → IsWritten text p → IsWritten text q → p ≡ q }
-{}

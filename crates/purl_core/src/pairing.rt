@@ -9,7 +9,7 @@ ghost use Rattle.purl_core.specs.Pairing.{IsPaired, PutsPair, PutsPiece, entry_v
 use crate::fault::PurlFault;
 use crate::placing::{Part, piece_cut};
 use crate::value::{Pair, Pairs};
-use percent_encoding::{DecodeError, percent_decode};
+use percent_encoding::percent_decode;
 use std::alloc::Global;
 use std::collections::BTreeMap;
 use vx_scheme::{NoMemory, Text};
