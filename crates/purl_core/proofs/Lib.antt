@@ -1,0 +1,17 @@
+pub mod Ascending
+pub mod Assembled
+pub mod Cuts
+pub mod Joined
+pub mod Kept
+pub mod Lacking
+pub mod OneValue
+pub mod PartLaws
+pub mod Pieces
+pub mod Printed
+pub mod Put
+pub mod Refused
+pub mod Sizes
+pub mod SoFar
+pub mod Splits
+pub mod Unspelled
+pub mod Valid

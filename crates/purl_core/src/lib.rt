@@ -1,0 +1,18 @@
+//! Package URLs: values, reading and writing.
+#![tactic(auto)]
+
+mod cutting;
+mod fault;
+mod pairing;
+mod placing;
+mod reading;
+mod value;
+mod writing;
+
+pub use fault::PurlFault;
+pub use reading::{one_purl, read, refused_is_unspelled, spelled_is_valid};
+pub use value::{Pair, Pairs, Purl, Segments};
+pub use writing::{printed_spells, write};
+
+#[cfg(test)]
+mod tests;

@@ -1,0 +1,112 @@
+ghost use Rattle.std.specs.Prelude.{◌≡◌, map, IfOk, IsUtf8, string_bytes};
+ghost use Rattle.vx_text.specs.Escapes.{unescaped};
+ghost use Rattle.vx_text.specs.Folding.{lowered};
+ghost use Rattle.purl_core.specs.Value.{Ascending, is_key, pair_view};
+ghost use Rattle.purl_core.specs.Places.{AllPieces, AllText, HasPiece, value_in, values};
+ghost use Rattle.purl_core.specs.Placing.{part_view};
+ghost use Rattle.purl_core.specs.Pairing.{IsPaired, PutsPair, PutsPiece, entry_view};
+
+use crate::fault::PurlFault;
+use crate::placing::{Part, piece_cut};
+use crate::value::{Pair, Pairs};
+use percent_encoding::percent_decode;
+use std::alloc::Global;
+use std::collections::BTreeMap;
+use vx_scheme::{NoMemory, Text};
+
+/// The qualifiers of the pieces, in the order of their keys, or where the first key stands twice. Pairs without a
+/// value are left out.
+pub(crate) fn paired(alloc: Global, pieces: &[Part]) -> Result<Pairs, PurlFault>
+    requires good { AllPieces (map part_view pieces.now) }
+    requires text { AllText (values (map part_view pieces.now)) }
+    ensures { IsPaired (map part_view pieces.now) result }
+{
+    let mut found: BTreeMap<String, Text> = BTreeMap::new(alloc);
+    for piece in pieces {
+        let twice = put_piece(alloc, &mut found, *piece)?;
+        if twice {
+            return Err(PurlFault::DuplicateKey(piece.at));
+        }
+    }
+    Ok(in_order(alloc, found)?)
+}
+
+/// Puts the pair of a piece among those found, and answers whether its key stood there.
+fn put_piece(
+    alloc: Global,
+    found: &mut BTreeMap<String, Text>,
+    piece: Part,
+) -> Result<bool, NoMemory>
+    requires piece { HasPiece piece.bytes.now }
+    requires text { AllText (value_in piece.at piece.bytes.now) }
+    ensures { IfOk result (λ twice. PutsPiece (map entry_view found.old.entries) (map entry_view found.new.entries) (part_view piece.entry) twice) }
+{
+    let Some((key, value)) = piece_cut(piece.bytes) else {
+        return Ok(false);
+    };
+    if value.is_empty() {
+        return Ok(false);
+    }
+    put_pair(alloc, found, key, value)
+}
+
+fn put_pair(
+    alloc: Global,
+    found: &mut BTreeMap<String, Text>,
+    key: &[u8],
+    value: &[u8],
+) -> Result<bool, NoMemory>
+    requires key { IsUtf8 key.now }
+    requires text { IsUtf8 (unescaped value.now) }
+    ensures { IfOk result (λ twice. PutsPair (map entry_view found.old.entries) (map entry_view found.new.entries) (lowered key.now, unescaped value.now) twice) }
+{
+    let low = low_key(alloc, key)?;
+    let plain = decoded(alloc, value)?;
+    match found.insert(low, plain) {
+        Ok(old) => Ok(old.is_some()),
+        Err(_) => Err(NoMemory),
+    }
+}
+
+fn low_key(alloc: Global, key: &[u8]) -> Result<String, NoMemory>
+    requires { IsUtf8 key.now }
+    ensures { IfOk result (λ low. string_bytes low ≡ lowered key.now) }
+{
+    match str::from_utf8(key) {
+        Ok(text) => Ok(text.to_ascii_lowercase(alloc)?),
+        Err(_) => Err(NoMemory),
+    }
+}
+
+/// The text that the bytes stand for.
+pub(crate) fn decoded(alloc: Global, bytes: &[u8]) -> Result<Text, NoMemory>
+    requires { IsUtf8 (unescaped bytes.now) }
+    ensures { IfOk result (λ text. text ≡ unescaped bytes.now) }
+{
+    match percent_decode(bytes).decode_utf8(alloc) {
+        Ok(plain) => text_of(alloc, plain.as_str()),
+        Err(_) => Err(NoMemory),
+    }
+}
+
+fn text_of(alloc: Global, text: &str) -> Result<Text, NoMemory>
+    ensures { IfOk result (λ copy. copy ≡ text.now) }
+{
+    let mut copy = Text::new(alloc);
+    copy.push_str(text)?;
+    Ok(copy)
+}
+
+/// The pairs of a map, in the order of their keys.
+fn in_order(alloc: Global, found: BTreeMap<String, Text>) -> Result<Pairs, NoMemory>
+    requires { Ascending (map entry_view found.entries) }
+    ensures { IfOk result (λ pairs. map pair_view pairs ≡ map entry_view found.entries) }
+{
+    let mut found = found;
+    let mut pairs = Pairs::new(alloc);
+    'entries: while let Some((key, value)) = found.pop_first() {
+        let key = text_of(alloc, key.as_str())?;
+        pairs.push(Pair { key, value })?;
+    }
+    Ok(pairs)
+}
