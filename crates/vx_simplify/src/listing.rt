@@ -5,7 +5,7 @@ ghost use Rattle.vx_scheme.specs.declared.span.Cut.{Cut};
 ghost use Rattle.vx_scheme.specs.Cuts.{cut_cmp, cuts_of, cut_list, in_spans};
 ghost use Rattle.vx_vers.specs.Meaning.{meaning};
 ghost use Rattle.vx_vers.specs.Sorted.{IsSorted, IsAboveLast};
-ghost use Rattle.vx_simplify.specs.Listed.{bound, exact, is_class, listed, list_of};
+ghost use Rattle.vx_simplify.specs.Listed.{bound, exact, with, is_class, listed, list_of};
 ghost use Rattle.vx_simplify.specs.declared.listing.FromSet.TheVariants as fault_of;
 
 use std::alloc::Global;
@@ -99,19 +99,13 @@ fn pass_cut<S: Scheme>(
         });
     };
     if is_one_class::<S>(&lower, &cut) {
-        list.push(Constraint {
-            comparator: exact_of(inside),
-            version: lower.version,
-        })?;
+        list.push(constraint_of(exact_of(inside), lower))?;
         Ok(Walk {
             inside,
             waiting: None,
         })
     } else {
-        list.push(Constraint {
-            comparator: bound_of(inside, lower.after),
-            version: lower.version,
-        })?;
+        list.push(constraint_of(bound_of(inside, lower.after), lower))?;
         Ok(Walk {
             inside: !inside,
             waiting: Some(cut),
@@ -127,10 +121,17 @@ fn end_walk<S: Scheme>(list: &mut Constraints<S>, walk: Walk<S::Version>) -> Res
     let Walk { inside, waiting } = walk;
     match waiting {
         None => Ok(()),
-        Some(cut) => list.push(Constraint {
-            comparator: bound_of(inside, cut.after),
-            version: cut.version,
-        }),
+        Some(cut) => list.push(constraint_of(bound_of(inside, cut.after), cut)),
+    }
+}
+
+/// A comparator with the version of a cut.
+fn constraint_of<V: Drop>(comparator: Comparator, cut: Cut<V>) -> Constraint<V>
+    ensures { result ≡ with comparator cut }
+{
+    Constraint {
+        comparator,
+        version: cut.version,
     }
 }
 

@@ -93,7 +93,10 @@ fn several_spans(rt: HostRuntime) -> Result<(), Fail> {
     let holed = between(alloc, "30", "80")?.intersect(between(alloc, "50", "50")?.complement()?)?;
     let set = ends.union(holed)?;
     let all_but = between::<Levels>(alloc, "30", "80")?.complement()?;
-    assert_eq!(rt; printed(alloc, set)?.as_str(), "vers:npm/<10|20|>=30|!=50|<=80");
+    assert_eq!(rt;
+        printed(alloc, set)?.as_str(),
+        "vers:npm/<10|20|>=30|!=50|<=80"
+    );
     assert_eq!(rt; printed(alloc, all_but)?.as_str(), "vers:npm/<30|>80");
     Ok(())
 }
@@ -103,6 +106,11 @@ fn every_version_and_none(rt: HostRuntime) -> Result<(), Fail> {
     let alloc = rt.alloc();
     let every = printed(alloc, Set::<Levels>::every(alloc)?)?;
     assert_eq!(rt; every.as_str(), "vers:npm/*");
-    assert!(rt; matches!(from_set(alloc, Set::<Levels>::none(alloc)), Err(FromSet::Empty)));
+    assert!(rt;
+        matches!(
+            from_set(alloc, Set::<Levels>::none(alloc)),
+            Err(FromSet::Empty)
+        )
+    );
     Ok(())
 }
