@@ -1,5 +1,5 @@
 -- One alternative more.
-use Rattle.std.proofs.Common.{◌≡◌, ◌≢◌, ◌+◌, ◌++◌, ℕ, List, [], ◌∷◌, Option, None, Some, sym, subst, append_assoc}
+use Rattle.std.proofs.Common.{◌≡◌, ◌+◌, ◌++◌, ℕ, List, [], ◌∷◌, Option, None, Some, sym, subst, append_assoc}
 use Rattle.vx_spec.specs.Firsts.{IsFirst}
 use Rattle.vx_spec.proofs.FirstLaws.{first_pass, first_stop}
 use Rattle.vx_scheme.specs.declared.domain.Domain.{Domain}

@@ -4,7 +4,6 @@ use Rattle.std.specs.Prelude.{⊤}
 use Rattle.vx_spec.proofs.FirstLaws.{one_first}
 use Rattle.vx_spec.specs.Firsts.{IsFirst}
 use Rattle.vx_scheme.specs.declared.domain.Domain.{Domain}
-use Rattle.vx_scheme.specs.declared.domain.Domain.TheVariants.{All, Releases}
 use Rattle.vx_scheme.specs.declared.range_fault.RangeFault.{RangeFault}
 use Rattle.vx_scheme.specs.declared.range_fault.RangeFault.TheVariants.{Syntax, Numeral, NoEndpoint, NoMemory}
 use Rattle.vx_scheme.specs.declared.span.Span.{Span}
@@ -17,7 +16,7 @@ use Rattle.npm_range.specs.Holds.{holds_all}
 use Rattle.npm_range.specs.OneReading.{one_reads, first_syntax_one, first_numeral_one, syntax_not_numeral, syntax_not_read, numeral_not_within}
 use Rattle.npm_range.specs.Refusals.{IsFirstSyntax, IsFirstNumeral}
 use Rattle.npm_range.specs.Range.{IsRange, In, Makes, IsFirstUnraisable, Refuses}
-use Rattle.npm_range.specs.Reading.{Reads, IsWithinAll}
+use Rattle.npm_range.specs.Reading.{Reads}
 use Rattle.npm_range.specs.SpanLaws.{bounds_say}
 use Rattle.npm_range.specs.Spans.{IsUnraisable, constructs_of, made_bounds}
 

@@ -1,7 +1,7 @@
 -- The spans of a construct hold exactly the versions of the domain of which the construct holds.
-use Rattle.std.proofs.Common.{◌≡◌, ◌==◌, ◌&&◌, ◌||◌, ◌+◌, not, nat_lt, cond, ℕ, Bool, true, false, List, [], ◌∷◌, refl, sym, ap, ◌∙◌, arith, inl, inr, eqb-true, eq-eqb, le-ltb}
+use Rattle.std.proofs.Common.{◌≡◌, ◌==◌, ◌&&◌, ◌||◌, ◌+◌, not, nat_lt, ℕ, Bool, true, false, List, [], ◌∷◌, refl, sym, ap, ◌∙◌, arith, inl, inr, eqb-true}
 use Rattle.std.specs.Prelude.{⊤, Option, Some, None}
-use Rattle.std.specs.List.{list_any, list_all}
+use Rattle.std.specs.List.{list_all}
 use Rattle.std.specs.Ordering.{ordering_reverse, is_eq, is_lt, is_le, is_gt, is_ge}
 use Rattle.std.specs.declared.cmp.Ordering.{Ordering}
 use Rattle.std.specs.declared.cmp.Ordering.TheVariants as ordering
@@ -14,10 +14,9 @@ use Rattle.vx_scheme.specs.declared.domain.Domain.{Domain}
 use Rattle.vx_scheme.specs.declared.domain.Domain.TheVariants.{All, Releases}
 use Rattle.vx_scheme.specs.declared.range_fault.RangeFault.{RangeFault}
 use Rattle.vx_scheme.specs.declared.range_fault.RangeFault.TheVariants as fault_of
-use Rattle.vx_scheme.specs.declared.span.Span.{Span}
-use Rattle.vx_scheme.specs.Cuts.{stands_below, spans_at, in_spans, in_bounds}
+use Rattle.vx_scheme.specs.Cuts.{stands_below, in_spans, in_bounds}
 use Rattle.vx_scheme.specs.Native.{by_domain}
-use Rattle.npm_scheme.specs.Version.{Fields, IsVersion, IsRelease, lowest_of, release_of}
+use Rattle.npm_scheme.specs.Version.{Fields, IsVersion, IsRelease, release_of}
 use Rattle.npm_scheme.specs.Order.{order_of, order_total}
 use Rattle.npm_scheme.proofs.LowestLaws.{numbers_below, numbers_same, has_pre, is_lt-lowest_of, is_lt-release_of, numbers_below-patch_0, numbers_below-minor_0, numbers_below_is_below}
 use Rattle.npm_range.specs.declared.construct.Operator.{Operator}
@@ -25,7 +24,7 @@ use Rattle.npm_range.specs.declared.construct.Operator.TheVariants as operator
 use Rattle.npm_range.specs.declared.construct.Partial.{Partial}
 use Rattle.npm_range.specs.declared.construct.Partial.TheVariants.{Any, Major, Minor, Full}
 use Rattle.npm_range.specs.declared.construct.Construct.{Construct}
-use Rattle.npm_range.specs.Holds.{numbers_of, are_same, are_below, up_to_first_not_0, at_least, equal, greater, greater_equal, less, less_equal, tilde, caret, holds_by, holds, holds_all}
+use Rattle.npm_range.specs.Holds.{numbers_of, are_same, up_to_first_not_0, at_least, equal, greater, greater_equal, less, less_equal, tilde, caret, holds_by, holds, holds_all}
 use Rattle.npm_range.specs.Spans.{point, from, above, below, up_to, between, end_of, equal_spans, greater_spans, greater_equal_spans, less_spans, less_equal_spans, tilde_spans, caret_end_of_two, caret_end_of_three, caret_spans, spans_by, made_spans, cut_count, cut_count_of_all, made_terms, made_from, made_bounds, IsUnraisable, IsPastLimit}
 
 -- the version is of the domain
