@@ -1,5 +1,5 @@
 -- An accepted line is a translation.
-use Rattle.std.proofs.Common.{◌≡◌, ℕ, List, [], ◌∷◌, ◌++◌, Bool, true, false, Option, Some, None, refl, codes, bytes_eq, nat_lt}
+use Rattle.std.proofs.Common.{◌≡◌, ℕ, List, [], ◌∷◌, Bool, true, false, Option, Some, None, refl, codes, bytes_eq, nat_lt}
 use Rattle.std.proofs.lemmas.Slice.Eq.{bytes_eq-Decides}
 use Rattle.vx_scheme.specs.declared.name.SchemeName.{SchemeName}
 use Rattle.vx_scheme.specs.declared.name.SchemeName.TheVariants.{Npm, Pypi, Maven, Gem, Deb, Rpm, Nuget, Cargo}
@@ -9,7 +9,7 @@ use Rattle.npm_scheme.specs.Writing.{normal}
 use Rattle.npm_range.specs.Laws.{npm_ranges}
 use Rattle.vx_translate.specs.ToVers.{IsTranslated, IsSameRange}
 use Rattle.vx_translate.proofs.ForwardLaws.{holds_same}
-use Rattle.vx_cli.specs.Answers.{IsAnswer, AnswersLine, AnswersFields, AnswersCommand, AnswersScheme, AnswersInDomain, AnswersRange, scheme_named, domain_named}
+use Rattle.vx_cli.specs.Answers.{IsAnswer, AnswersLine, AnswersFields, AnswersCommand, AnswersScheme, AnswersInDomain, scheme_named, domain_named}
 use Rattle.vx_cli.specs.Fields.{joined_length}
 use Rattle.vx_cli.specs.Runs.{AppendsAnswer, AppendsTranslation}
 use Rattle.vx_cli.specs.Translations.{IsTranslation}

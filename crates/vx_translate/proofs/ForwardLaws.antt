@@ -1,19 +1,18 @@
 -- A translation holds the versions of its range text.
-use Rattle.std.proofs.Common.{◌≡◌, ◌≢◌, ◌↔◌, ℕ, List, [], true, sym, ◌∙◌}
+use Rattle.std.proofs.Common.{◌≡◌, ◌↔◌, ℕ, List, [], true, sym, ◌∙◌}
 use Rattle.std.specs.Cmp.{IsTotalOrder}
 use Rattle.std.specs.declared.cmp.Ordering.{Ordering}
 use Rattle.vx_scheme.specs.declared.name.SchemeName.{SchemeName}
 use Rattle.vx_scheme.specs.declared.domain.Domain.{Domain}
 use Rattle.vx_scheme.specs.declared.range_fault.RangeFault.{RangeFault}
 use Rattle.vx_scheme.specs.declared.span.Span.{Span}
-use Rattle.vx_scheme.specs.Cuts.{cut_below, cuts_of, in_spans, in_bounds}
+use Rattle.vx_scheme.specs.Cuts.{cut_below, cuts_of, in_spans}
 use Rattle.vx_scheme.specs.Native.{RangeLaws}
 use Rattle.vx_interval.specs.Joined.{IsJoined}
 use Rattle.vx_interval.proofs.SpanLaws.{version_place}
 use Rattle.vx_simplify.specs.Listed.{list_of}
 use Rattle.vx_simplify.proofs.ListedLaws.{list_means}
 use Rattle.vx_simplify.proofs.ListedOrder.{listed_in_order}
-use Rattle.vx_vers.specs.Meaning.{meaning}
 use Rattle.vx_translate.specs.Forward.{Translates, HoldsSame, IsEmpty}
 
 module _ {V : Type 0} {order : V → V → Ordering} (total : IsTotalOrder order) {IsVersion : V → Type 0} {InDomain : Domain → V → Type 0} {IsRange : List ℕ → Type 0} {In : List ℕ → V → Type 0} {Makes : Domain → List ℕ → List (List (List (Span V))) → Type 0} {Refuses : Domain → List ℕ → RangeFault → Type 0} (laws : RangeLaws order IsVersion InDomain IsRange In Makes Refuses) where

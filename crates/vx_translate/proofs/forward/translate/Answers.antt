@@ -1,7 +1,6 @@
-use Rattle.std.proofs.Common.{◌≡◌, ◌≢◌, [], List, subst, rules}
-use Rattle.vx_scheme.specs.declared.span.Span.{Span}
+use Rattle.std.proofs.Common.{◌≡◌, [], subst, rules}
 use Rattle.vx_interval.specs.Joined.{IsJoined}
-use Rattle.vx_translate.specs.Forward.{Translates, IsEmpty}
+use Rattle.vx_translate.specs.Forward.{Translates}
 use Rattle.vx_translate.proofs.ForwardLaws.{holds_same, holds_none}
 use Rattle.vx_translate.proofs.forward.translate.Goals as goal
 
