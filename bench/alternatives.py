@@ -1,7 +1,7 @@
 #!/usr/bin/env python3
 """Times `vx to-vers npm all` on ranges of 1,000, 4,000 and 16,000 alternatives.
 
-Each line is timed five times, and the least time counts. The last column is the ratio to the line before; where the
+Each line is timed twenty-five times, and the least time counts. The last column is the ratio to the line before; where the
 work grows with the length of the line, it stays near 4, and below 5.
 """
 import pathlib
@@ -15,7 +15,7 @@ PROGRAM = ROOT / "crates" / "vx_cli" / "out" / "vx_cli"
 
 def least_time(words):
     times = []
-    for _ in range(5):
+    for _ in range(25):
         begin = time.perf_counter()
         subprocess.run([PROGRAM, *words], stdout=subprocess.DEVNULL, check=False)
         times.append(time.perf_counter() - begin)

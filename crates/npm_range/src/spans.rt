@@ -91,9 +91,11 @@ fn single(
 ) -> Result<Spans<NpmVersion>, NoMemory>
     ensures { IfOk result (λ spans. spans ≡ (record { lower = lower; upper = upper }) ∷ []) }
 {
-    let mut spans = Spans::new(alloc);
-    spans.push(Span { lower, upper })?;
-    Ok(spans)
+    // A list of one place: a push would take room for several.
+    match vec![in alloc; Span { lower, upper }] {
+        Ok(spans) => Ok(Spans::from_vec(spans)),
+        Err(_) => Err(NoMemory),
+    }
 }
 
 /// Every version.
