@@ -1,4 +1,4 @@
-ghost use Rattle.std.specs.Prelude.{◌≡◌, [], ◌∷◌, ◌++◌, ◌<◌, length, slice_get, Some, MatchOption, OnOk, OnErr, IsTrue, ◌↔◌};
+ghost use Rattle.std.specs.Prelude.{◌≡◌, [], ◌∷◌, ◌++◌, ◌<◌, length, slice_get, Some, MatchOption, OnOk, OnErr, IfOk, IsTrue, ◌↔◌};
 
 use crate::memory::NoMemory;
 use std::alloc::Global;
@@ -89,6 +89,17 @@ impl<T> List<T> {
 }
 
 impl<T: Drop> List<T> {
+    /// The list of one item, with room for no more. A refused call drops the item.
+    pub fn one(alloc: Global, item: T) -> Result<Self, NoMemory>
+        ensures { IfOk result (λ list. list ≡ item ∷ []) }
+    {
+        let mut list = List {
+            items: Vec::with_capacity(alloc, 1)?,
+        };
+        list.push(item)?;
+        Ok(list)
+    }
+
     /// Appends an item. A refused push drops the item and leaves the list as it was.
     pub fn push(&mut self, item: T) -> Result<(), NoMemory>
         ensures ok { OnOk result (self.new ≡ self.old ++ item ∷ []) }

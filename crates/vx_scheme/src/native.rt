@@ -1,17 +1,20 @@
-ghost use Rattle.std.specs.Prelude.{◌≡◌, ◌↔◌, ℕ, List, IsTrue, IfOk, IfErr};
+ghost use Rattle.std.specs.Prelude.{◌≡◌, ◌↔◌, ℕ, List, IsTrue, Result, Ok, IfOk, IfErr};
 ghost use Rattle.vx_scheme.specs.Domains.{InDomain};
-ghost use Rattle.vx_scheme.specs.Native.{Refused, RangeLaws};
+ghost use Rattle.vx_scheme.specs.Native.{Refused, BackRefused, RangeLaws, BackLaws, IsSpans};
 
+use crate::back_fault::BackFault;
 use crate::domain::Domain;
 use crate::range_fault::RangeFault;
 use crate::scheme::Scheme;
-use crate::span::Bounds;
+use crate::span::{Bounds, Spans};
+use crate::text::Text;
 use std::alloc::Global;
 
 /// A scheme with a range language.
 pub trait Native: Scheme {
     ghost use Rattle.vx_scheme.specs.declared.domain.Domain.{Domain};
     ghost use Rattle.vx_scheme.specs.declared.range_fault.RangeFault.{RangeFault};
+    ghost use Rattle.vx_scheme.specs.declared.back_fault.BackFault.{BackFault};
     ghost use Rattle.vx_scheme.specs.declared.span.Span.{Span};
 
     /// The domain is offered.
@@ -31,6 +34,9 @@ pub trait Native: Scheme {
 
     /// In the domain this is the first refusal of the text.
     ghost Refuses: { Domain → List ℕ → RangeFault → Type 0 };
+
+    /// The text of the spans in the domain, or its first refusal.
+    ghost back: { Domain → List (Span Self.Version) → Result (List ℕ) BackFault };
 
     /// Whether translations may name the domain. It takes no memory.
     fn offers(domain: Domain) -> bool
@@ -52,6 +58,20 @@ pub trait Native: Scheme {
         ensures ok { IfOk result (λ bounds. Makes domain text.now bounds) }
         ensures err { IfErr result (Refused (Refuses domain text.now)) };
 
+    /// The range text of the spans in the domain, or its first refusal.
+    fn unbounds(
+        alloc: Global,
+        spans: &Spans<Self::Version>,
+        domain: Domain,
+    ) -> Result<Text, BackFault>
+        requires offered { Offers domain }
+        requires spans { IsSpans Self.order spans.now }
+        ensures ok { IfOk result (λ text. back domain spans.now ≡ Ok text) }
+        ensures err { IfErr result (BackRefused (back domain spans.now)) };
+
     /// What is made and what is refused.
     ghost ranges: { RangeLaws Self.order Self.IsVersion (InDomain Self.Scheme) IsRange In Makes Refuses };
+
+    /// What is printed.
+    ghost backs: { BackLaws Self.order Self.IsVersion (InDomain Self.Scheme) IsRange In back };
 }

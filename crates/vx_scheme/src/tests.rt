@@ -1,4 +1,7 @@
-use crate::{Domain, Ident, Idents, List, NoMemory, SchemeName, Text, VersionFault, copy_idents};
+use crate::{
+    BackFault, Domain, Ident, Idents, List, NoMemory, SchemeName, StepFault, Text, VersionFault,
+    copy_idents,
+};
 
 #[test]
 fn texts(rt: HostRuntime) -> Result<(), std::test::Fail> {
@@ -31,6 +34,7 @@ fn lists(rt: HostRuntime) -> Result<(), std::test::Fail> {
         List::from_vec(list.into_vec()).as_slice(),
         [7, 8].as_slice()
     );
+    assert_eq!(rt; List::one(rt.alloc(), 4u64)?.as_slice(), [4].as_slice());
     Ok(())
 }
 
@@ -56,4 +60,6 @@ fn names(rt: HostRuntime) {
     assert!(rt; Domain::Releases.is_releases());
     assert!(rt; !Domain::All.is_releases());
     assert_eq!(rt; VersionFault::from(NoMemory), VersionFault::NoMemory);
+    assert_eq!(rt; BackFault::from(NoMemory), BackFault::NoMemory);
+    assert_eq!(rt; StepFault::from(NoMemory), StepFault::NoMemory);
 }

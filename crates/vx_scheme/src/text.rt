@@ -30,6 +30,13 @@ impl Text {
         }
     }
 
+    /// The text of a string. It takes no memory.
+    pub fn from_string(inner: String) -> Text
+        ensures { result ≡ string_bytes inner }
+    {
+        Text { inner }
+    }
+
     /// Its length in bytes.
     pub fn len(&self) -> usize
         ensures { result ≡ length self.now }

@@ -104,21 +104,13 @@ pub fn unescape(alloc: Global, text: &str) -> Result<Text, EscapeFault>
         return Err(EscapeFault::BadEscape(at));
     }
     match percent_decode_str(text).decode_utf8(alloc) {
-        Ok(plain) => match copied(alloc, plain.as_str()) {
-            Ok(copy) => Ok(copy),
+        Ok(plain) => match plain.into_owned(alloc) {
+            Ok(owned) => Ok(Text::from_string(owned)),
             Err(_) => Err(EscapeFault::NoMemory),
         },
         Err(DecodeError::Utf8(_)) => Err(EscapeFault::NotText),
         Err(DecodeError::OutOfMemory) => Err(EscapeFault::NoMemory),
     }
-}
-
-fn copied(alloc: Global, text: &str) -> Result<Text, NoMemory>
-    ensures { IfOk result (λ copy. copy ≡ text.now) }
-{
-    let mut copy = Text::new(alloc);
-    copy.push_str(text)?;
-    Ok(copy)
 }
 
 /// Escapes a text and reads the escapes again, which gives the text.

@@ -9,9 +9,7 @@ pub fn lower(alloc: Global, text: &str) -> Result<Text, NoMemory>
     ensures { IfOk result (λ low. low ≡ lowered text.now) }
 {
     let low = text.to_ascii_lowercase(alloc)?;
-    let mut out = Text::new(alloc);
-    out.push_str(low.as_str())?;
-    Ok(out)
+    Ok(Text::from_string(low))
 }
 
 /// Whether the texts are equal once their ASCII letters are in lower case. It takes no memory.
