@@ -1,2 +1,16 @@
+pub mod AgainLaws
+pub mod HeadLaws
+pub mod OneList
+pub mod PartLaws
+pub mod Passed
 pub mod Pushed
+pub mod Ranked
+pub mod ReadLaws
+pub mod Sides
+pub mod SignLaws
+pub mod SolidLaws
 pub mod SortedLaws
+pub mod Spelled
+pub mod ValidLaws
+pub mod VersionLaws
+pub mod Walking

@@ -1,5 +1,5 @@
 -- What a push and a pop do to sorted constraints.
-use Rattle.std.proofs.Common.{◌≡◌, List, [], ◌∷◌, ◌++◌, Ordering, Less, Result, Ok, Err, OnOk, OnErr, Option, Some, None, MatchOption, subst, sym}
+use Rattle.std.proofs.Common.{◌≡◌, ℕ, zero, suc, drop, List, [], ◌∷◌, ◌++◌, Ordering, Less, Result, Ok, Err, OnOk, OnErr, Option, Some, None, MatchOption, subst, sym}
 use Rattle.std.specs.Cmp.{IsTotalOrder}
 use Rattle.std.specs.List.{AllByRecursion}
 use Rattle.vx_vers.specs.declared.constraints.Constraint.{Constraint}
@@ -42,3 +42,10 @@ module _ {V : Type 0} (order : V → V → Ordering) (laws : IsTotalOrder order)
   pub sorted-popped : (outcome : Option (Constraint V)) (old new : List (Constraint V)) → MatchOption outcome ((old ≡ []) × (new ≡ [])) (λ last. old ≡ new ++ last ∷ []) → IsSorted order old → IsSorted order new
   sorted-popped None old new popped sorted = subst (IsSorted order) (sym popped.1) tt
   sorted-popped (Some last) old new popped sorted = sorted-front new last (subst (IsSorted order) popped sorted)
+
+module _ {V : Type 0} (order : V → V → Ordering) where
+  -- what stands from a place on is sorted
+  pub sorted_drop : (i : ℕ) (list : List (Constraint V)) → IsSorted order list → IsSorted order (drop i list)
+  sorted_drop zero list sorted = sorted
+  sorted_drop (suc i) [] sorted = tt
+  sorted_drop (suc i) (c ∷ list) sorted = sorted_drop i list sorted.1

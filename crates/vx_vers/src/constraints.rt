@@ -61,6 +61,14 @@ impl<S: Scheme> Constraints<S> {
         }
     }
 
+    /// The list of these constraints, which are sorted.
+    pub(crate) fn from_sorted(list: List<Constraint<S::Version>>) -> Constraints<S>
+        requires { IsSorted S.order list }
+        ensures { result ≡ list }
+    {
+        Constraints { list }
+    }
+
     /// How many constraints there are.
     pub fn len(&self) -> usize
         ensures { result ≡ length self.now }

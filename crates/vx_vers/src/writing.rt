@@ -2,6 +2,7 @@ ghost use Rattle.std.specs.Prelude.{◌≡◌, ◌++◌, ◌≢◌, [], OnOk, On
 ghost use Rattle.std.specs.List.{join_with_byte};
 ghost use Rattle.vx_scheme.specs.Names.{text_of};
 ghost use Rattle.vx_text.specs.Escapes.{escaped};
+ghost use Rattle.vx_vers.specs.Again.{EachWritable, IsWritable, SpellsSame};
 ghost use Rattle.vx_vers.specs.Texts.{sign, bar_before, constraint_text, constraints_text, vers_text};
 
 use crate::constraints::{Comparator, Constraint, Constraints};
@@ -32,11 +33,13 @@ fn push_version<S: Scheme>(
     version: &S::Version,
     plain: &mut Text,
 ) -> Result<(), NoMemory>
-    ensures { OnOk result (out.new ≡ out.old ++ escaped (S.normal version.now)) }
+    ensures text { OnOk result (out.new ≡ out.old ++ escaped (S.normal version.now)) }
+    ensures version { OnOk result (IsWritable S.IsVersion S.IsWithin S.normal version.now) }
 {
     plain.cut(0);
     S::write(version, plain)?;
-    escape(plain.as_str(), out)
+    let text = plain.as_str();
+    escape(text, out)
 }
 
 fn push_constraint<S: Scheme>(
@@ -44,14 +47,16 @@ fn push_constraint<S: Scheme>(
     constraint: &Constraint<S::Version>,
     plain: &mut Text,
 ) -> Result<(), NoMemory>
-    ensures { OnOk result (out.new ≡ out.old ++ constraint_text S.normal constraint.now) }
+    ensures text { OnOk result (out.new ≡ out.old ++ constraint_text S.normal constraint.now) }
+    ensures version { OnOk result (IsWritable S.IsVersion S.IsWithin S.normal constraint.now.version) }
 {
     push_sign(out, constraint.comparator)?;
     push_version::<S>(out, &constraint.version, plain)
 }
 
 fn push_joined<S: Scheme>(out: &mut Text, list: &[Constraint<S::Version>]) -> Result<(), NoMemory>
-    ensures { OnOk result (out.new ≡ out.old ++ join_with_byte 124 (map (constraint_text S.normal) list.now)) }
+    ensures text { OnOk result (out.new ≡ out.old ++ join_with_byte 124 (map (constraint_text S.normal) list.now)) }
+    ensures versions { OnOk result (EachWritable S.IsVersion S.IsWithin S.normal list.now) }
 {
     let mut plain = Text::new(out.alloc());
     for (i, constraint) in list.iter().enumerate() {
@@ -65,7 +70,8 @@ fn push_constraints<S: Scheme>(
     out: &mut Text,
     list: &[Constraint<S::Version>],
 ) -> Result<(), NoMemory>
-    ensures { OnOk result (out.new ≡ out.old ++ constraints_text S.normal list.now) }
+    ensures text { OnOk result (out.new ≡ out.old ++ constraints_text S.normal list.now) }
+    ensures versions { OnOk result (EachWritable S.IsVersion S.IsWithin S.normal list.now) }
 {
     match list {
         [] => out.push_str("*"),
@@ -81,9 +87,11 @@ fn push_head<S: Scheme>(out: &mut Text) -> Result<(), NoMemory>
 }
 
 /// Appends the printed text of the list: `vers:`, the scheme's name, `/` and the constraints parted by `|`, each with
-/// its version's normal text escaped; `*` for the empty list. A refused call leaves the text as it was.
+/// its version's normal text escaped; `*` for the empty list. The text spells a list with the same comparators and
+/// order-equal versions. A refused call leaves the text as it was.
 pub fn write<S: Scheme>(list: &Constraints<S>, out: &mut Text) -> Result<(), NoMemory>
     ensures ok { OnOk result (out.new ≡ out.old ++ vers_text S.name S.normal list.now) }
+    ensures spells { OnOk result (SpellsSame S.name S.order S.Spells S.IsWithin (vers_text S.name S.normal list.now) list.now) }
     ensures err { OnErr result (out.new ≡ out.old) }
 {
     let mut text = Text::new(out.alloc());
