@@ -15,7 +15,7 @@ use Rattle.vx_vers.specs.declared.constraints.Constraint.{Constraint}
 use Rattle.vx_vers.specs.Meaning.{Kind, point, hole, opening, closing, kind_of_comparator, kind, opens_next, opens_last, side_at, side, is_under_equal, is_under_not_equal, closes_above}
 use Rattle.vx_vers.specs.Sorted.{IsSorted}
 use Rattle.vx_simplify.specs.Edges.{cuts_after, cut_at, is_piece_in, edges_at, edges}
-use Rattle.vx_simplify.proofs.Sides.{AllAt, not_point, not_hole, upper_opens, upper_closes, upper_equal, upper_not_equal, above}
+use Rattle.vx_vers.proofs.Sides.{AllAt, not_point, not_hole, upper_opens, upper_closes, upper_equal, upper_not_equal, above}
 
 abbrev is_range : Kind → Bool
 is_range point = false

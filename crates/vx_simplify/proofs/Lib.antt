@@ -1,6 +1,12 @@
-pub mod Sides
+pub mod BehindLaws
+pub mod CleanLaws
+pub mod Dropping
+pub mod EdgeSteps
 pub mod EdgeLaws
 pub mod EdgeOrder
-pub mod ListedOrder
+pub mod Keeping
+pub mod KeptLaws
 pub mod ListedLaws
+pub mod ListedOrder
 pub mod Walking
+pub mod SameLaws

@@ -1,2 +1,4 @@
+pub mod Behind
 pub mod Edges
 pub mod Listed
+pub mod Simplified

@@ -1,10 +1,11 @@
+use crate::lists::{LISTS, Places, discard_all, is_in, list_of, places_in, places_of};
 use std::alloc::Global;
 use std::test::Fail;
 use vx_interval::Set;
-use vx_interval_tests::Levels;
+use vx_interval_tests::{Level, Levels};
 use vx_scheme::{Alternative, Bounds, Cut, NoMemory, Scheme, Span, Spans, Text, VersionFault};
-use vx_simplify::{FromSet, from_set};
-use vx_vers::write;
+use vx_simplify::{FromSet, from_set, simplify, to_set};
+use vx_vers::{Constraints, write};
 
 /// The versions above a cut, or those below it.
 fn half<S: Scheme>(
@@ -112,5 +113,88 @@ fn every_version_and_none(rt: HostRuntime) -> Result<(), Fail> {
             Err(FromSet::Empty)
         )
     );
+    Ok(())
+}
+
+/// Whether the list holds exactly the versions that it should.
+fn has_members(list: &Constraints<Levels>, places: &Places) -> bool {
+    for level in 0..10u8 {
+        if list.contains(&Level { level, tag: 1 }) != is_in(places, level) {
+            return false;
+        }
+    }
+    true
+}
+
+#[test]
+fn members_of_every_list(rt: HostRuntime) -> Result<(), Fail> {
+    let alloc = rt.alloc();
+    for number in 0..LISTS {
+        let places = places_of(number);
+        let list = list_of(alloc, &places)?;
+        assert!(rt; has_members(&list, &places), "list {number}");
+    }
+    Ok(())
+}
+
+#[test]
+fn every_list_simplified(rt: HostRuntime) -> Result<(), Fail> {
+    let alloc = rt.alloc();
+    for number in 0..LISTS {
+        let mut places = places_of(number);
+        let kept = simplify(alloc, &list_of(alloc, &places)?)?;
+        discard_all(&mut places);
+        assert!(rt; places_in(&kept) == places, "list {number}");
+        assert!(rt; kept.is_valid(), "list {number}");
+    }
+    Ok(())
+}
+
+/// The marks of the cuts, where there is one, from left to right.
+fn marks<S: Scheme>(alloc: Global, set: Set<S>) -> Result<Text, NoMemory> {
+    let mut text = Text::new(alloc);
+    for cut in set.into_cuts().into_vec() {
+        text.push_number(cut.mark as u128)?;
+        text.push_str(" ")?;
+    }
+    Ok(text)
+}
+
+#[test]
+fn sets_of_lists(rt: HostRuntime) -> Result<(), Fail> {
+    let alloc = rt.alloc();
+    // =1 >3 !=5 <7, and >1 =3
+    for (number, want) in [
+        (1 + 7 * (5 + 7 * (2 + 7 * 3)), "1 1 2 3 3 4 "),
+        (5 + 7, "1 "),
+    ] {
+        let list = list_of(alloc, &places_of(number))?;
+        assert!(rt; list.is_valid(), "list {number}");
+        assert_eq!(rt; marks(alloc, to_set(alloc, &list)?)?.as_str(), want);
+    }
+    Ok(())
+}
+
+/// Whether the set holds exactly the versions that it should.
+fn set_has_members(set: &Set<Levels>, places: &Places) -> bool {
+    for level in 0..10u8 {
+        if set.contains(&Level { level, tag: 1 }) != is_in(places, level) {
+            return false;
+        }
+    }
+    true
+}
+
+#[test]
+fn members_of_every_set(rt: HostRuntime) -> Result<(), Fail> {
+    let alloc = rt.alloc();
+    for number in 0..LISTS {
+        let places = places_of(number);
+        let list = list_of(alloc, &places)?;
+        if list.is_valid() {
+            let set = to_set(alloc, &list)?;
+            assert!(rt; set_has_members(&set, &places), "list {number}");
+        }
+    }
     Ok(())
 }
