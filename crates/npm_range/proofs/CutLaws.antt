@@ -3,7 +3,8 @@ use Rattle.std.proofs.Common.{◌≡◌, ◌≢◌, ◌<◌, ◌+◌, ℕ, List,
 use Rattle.std.proofs.lemmas.Bool.{cases_Bool}
 use Rattle.vx_spec.specs.Runs.{is_blank, is_solid, begins, past}
 use Rattle.vx_spec.proofs.RunLaws.{past_begins, past_stays, past_most, past_less}
-use Rattle.npm_range.specs.Alternatives.{has_bars, IsCutAtBars, Placed, AreAlternatives}
+use Rattle.npm_range.specs.Alternatives.{IsCutAtBars}
+use Rattle.npm_range.specs.Cutting.{reads_more}
 use Rattle.npm_range.specs.Pieces.{is_sign, WrittenPiece, piece_from, behind_piece, IsMadeOf, IsCutInto}
 
 solid_of : (b : ℕ) → is_blank b ≡ false → is_solid b ≡ true
@@ -19,22 +20,6 @@ from_shorter (b ∷ text) none some = elim (cases_Bool (is_sign b)) [
 -- a piece has a byte at least
 pub piece_shorter : (text : List ℕ) → piece_from text ≢ [] → length (behind_piece text) < length text
 piece_shorter text some = omega (arith, from_shorter (piece_from text) (past_begins is_blank text) some, past_most is_blank text)
-
--- what is cut off comes first
-more : (at : ℕ) (text : List ℕ) (front : Placed) (behind : List ℕ) (qs : List Placed) → IsCutAtBars text front.bytes behind → front.at ≡ at
-    → AreAlternatives (at + length front.bytes + 2) behind qs → AreAlternatives at text (front ∷ qs)
-more at text front behind [] cut e all = absurd all
-more at text front behind (q ∷ qs) cut e all = (behind, cut, e, all)
-
-reads_more : (at : ℕ) (text front behind : List ℕ) (pieces : List WrittenPiece) (all : List (List WrittenPiece)) → IsCutAtBars text front behind → IsMadeOf at front pieces
-    → IsCutInto (at + length front + 2) behind all → IsCutInto at text (pieces ∷ all)
-reads_more at text front behind pieces all cut here rest =
-    let p : Placed = record { at = at; bytes = front } in
-    record { parts = p ∷ rest.parts; cut = more at text p behind rest.parts cut refl rest.cut; each = (here, rest.each) }
-
--- the last alternative is read
-pub reads_last : (at : ℕ) (text : List ℕ) (pieces : List WrittenPiece) → has_bars text ≡ false → IsMadeOf at text pieces → IsCutInto at text (pieces ∷ [])
-reads_last at text pieces none here = record { parts = record { at = at; bytes = text } ∷ []; cut = (refl, none); each = (here, tt) }
 
 -- an alternative that is cut off is read
 pub reads_step : (at : ℕ) (text rest front behind : List ℕ) (done : List (List WrittenPiece)) (pieces : List WrittenPiece)

@@ -1,4 +1,8 @@
 pub mod Alternatives
+pub mod Back
+pub mod BackLaws
+pub mod BackTexts
+pub mod Cutting
 pub mod Forms
 pub mod Holds
 pub mod Laws

@@ -62,16 +62,16 @@ not_both ordering.Less e f = absurd (cc)
 not_both ordering.Equal e f = absurd (cc)
 not_both ordering.Greater e f = absurd (cc)
 
-over_before : (bound v : Fields) → stands_below (order_of bound v) false ≡ at_least bound v
+pub over_before : (bound v : Fields) → stands_below (order_of bound v) false ≡ at_least bound v
 over_before bound v = ap (λ o. stands_below o false) (order_total.antisymm bound v) ∙ before_is (order_of v bound)
 
-over_after : (bound v : Fields) → stands_below (order_of bound v) true ≡ is_gt (order_of v bound)
+pub over_after : (bound v : Fields) → stands_below (order_of bound v) true ≡ is_gt (order_of v bound)
 over_after bound v = ap (λ o. stands_below o true) (order_total.antisymm bound v) ∙ after_is (order_of v bound)
 
-under_before : (bound v : Fields) → not (stands_below (order_of bound v) false) ≡ is_lt (order_of v bound)
+pub under_before : (bound v : Fields) → not (stands_below (order_of bound v) false) ≡ is_lt (order_of v bound)
 under_before bound v = ap not (over_before bound v) ∙ below_is (order_of v bound)
 
-under_after : (bound v : Fields) → not (stands_below (order_of bound v) true) ≡ is_le (order_of v bound)
+pub under_after : (bound v : Fields) → not (stands_below (order_of bound v) true) ≡ is_le (order_of v bound)
 under_after bound v = ap not (over_after bound v) ∙ up_to_is (order_of v bound)
 
 -- one span of each kind
@@ -91,7 +91,7 @@ below_says mark bound v = or-false _ ∙ under_before bound v
 up_to_says : (mark : ℕ) (bound v : Fields) → in_spans order_of (up_to mark bound) v ≡ is_le (order_of v bound)
 up_to_says mark bound v = or-false _ ∙ under_after bound v
 
-point_says : (mark : ℕ) (bound v : Fields) → in_spans order_of (point mark bound) v ≡ is_eq (order_of v bound)
+pub point_says : (mark : ℕ) (bound v : Fields) → in_spans order_of (point mark bound) v ≡ is_eq (order_of v bound)
 point_says mark bound v =
     or-false (stands_below (order_of bound v) false && not (stands_below (order_of bound v) true))
     ∙ ((λ i. over_before bound v i && under_after bound v i) ∙ point_is (order_of v bound))

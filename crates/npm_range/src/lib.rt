@@ -1,6 +1,7 @@
 //! npm's version ranges, after the README of node-semver.
 #![tactic(auto)]
 
+mod back;
 mod construct;
 mod partials;
 mod pieces;

@@ -7,13 +7,15 @@ ghost use Rattle.npm_range.specs.declared.construct.Construct.{Construct};
 ghost use Rattle.npm_range.specs.Holds.{holds};
 ghost use Rattle.npm_range.specs.Spans.{made_spans};
 
+use crate::back::printed;
 use crate::reading::read;
 use crate::spans::made_bounds;
 use npm_scheme::{Npm, NpmVersion};
 use std::alloc::Global;
 use std::cmp::Ordering;
 use vx_scheme::{
-    Bounds, Domain, Native, NoMemory, RangeFault, Scheme, SchemeName, Text, VersionFault,
+    BackFault, Bounds, Domain, Native, NoMemory, RangeFault, Scheme, SchemeName, Spans, Text,
+    VersionFault,
 };
 
 /// npm's versions with npm's range language.
@@ -72,7 +74,9 @@ impl Native for NpmRange {
     ghost use Rattle.std.specs.Prelude.{⊤};
     ghost use Rattle.vx_scheme.specs.declared.domain.Domain.TheVariants as domain_of;
     ghost use Rattle.npm_range.specs.Range.{IsRange, In, Makes, Refuses};
+    ghost use Rattle.npm_range.specs.Back.{back};
     ghost use Rattle.npm_range.specs.Laws.{npm_ranges};
+    ghost use Rattle.npm_range.specs.BackLaws.{npm_backs};
 
     ghost Offers = { λ _. ⊤ };
 
@@ -86,7 +90,11 @@ impl Native for NpmRange {
 
     ghost Refuses = { Refuses };
 
+    ghost back = { back };
+
     ghost ranges = { npm_ranges };
+
+    ghost backs = { npm_backs };
 
     fn offers(_domain: Domain) -> bool {
         true
@@ -105,6 +113,15 @@ impl Native for NpmRange {
             Ok(bounds) => Ok(bounds),
             Err(fault) => Err(fault),
         }
+    }
+
+    fn unbounds(
+        alloc: Global,
+        spans: &Spans<NpmVersion>,
+        _domain: Domain,
+    ) -> Result<Text, BackFault> {
+        let text = printed(alloc, spans.as_slice())?;
+        Ok(text)
     }
 }
 

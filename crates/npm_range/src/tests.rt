@@ -1,8 +1,10 @@
+use crate::NpmRange;
+use crate::back::printed;
 use crate::construct::{Operator, Partial};
 use crate::reading::read;
 use std::alloc::Global;
 use std::test::Fail;
-use vx_scheme::RangeFault;
+use vx_scheme::{Domain, Native, RangeFault, Span, Spans, Text};
 
 /// How many alternatives a text has.
 fn alternatives(alloc: Global, text: &str) -> Result<usize, RangeFault> {
@@ -90,5 +92,40 @@ fn the_first_refusal_is_named(rt: HostRuntime) -> Result<(), Fail> {
         alternatives(alloc, "v1.2.3-a.340282366920938463463374607431768211456+1"),
         Err(RangeFault::Numeral(9))
     );
+    Ok(())
+}
+
+/// The text of the first spans that a text makes.
+fn first_printed(alloc: Global, text: &str) -> Result<Text, Fail> {
+    let bounds = NpmRange::bounds(alloc, text, Domain::All)?;
+    let Some(terms) = bounds.as_slice().first() else {
+        return Ok(Text::new(alloc));
+    };
+    let Some(spans) = terms.as_slice().first() else {
+        return Ok(Text::new(alloc));
+    };
+    Ok(printed(alloc, spans.as_slice())?)
+}
+
+#[test]
+fn spans_are_printed(rt: HostRuntime) -> Result<(), Fail> {
+    let alloc = rt.alloc();
+    let every = Spans::one(
+        alloc,
+        Span {
+            lower: None,
+            upper: None,
+        },
+    )?;
+    let text = NpmRange::unbounds(alloc, &every, Domain::Releases)?;
+    assert_eq!(rt; text.as_str(), "*");
+    let rows = "=1.2.3+b:1.2.3\n>1.2.3-a.0:>1.2.3-a.0\n<=1:<2.0.0-0\n^0.1:>=0.1.0 <0.2.0-0";
+    for row in rows.split('\n') {
+        let Some((written, wanted)) = row.split_once(':') else {
+            return Ok(());
+        };
+        let text = first_printed(alloc, written)?;
+        assert_eq!(rt; text.as_str(), wanted);
+    }
     Ok(())
 }

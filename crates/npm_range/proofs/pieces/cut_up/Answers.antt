@@ -2,7 +2,8 @@ use Rattle.std.proofs.Common.{map, arith, Vec, Global}
 use Rattle.std.proofs.lemmas.List.{map_push}
 use Rattle.npm_range.specs.declared.pieces.Piece.{Piece}
 use Rattle.npm_range.specs.Pieces.{seen}
-use Rattle.npm_range.proofs.CutLaws.{reads_step, reads_last}
+use Rattle.npm_range.specs.Cutting.{reads_last}
+use Rattle.npm_range.proofs.CutLaws.{reads_step}
 use Rattle.npm_range.proofs.pieces.cut_up.Goals as goal
 
 pub loop-front-preserved : goal.loop-front-preserved
