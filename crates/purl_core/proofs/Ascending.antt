@@ -1,5 +1,5 @@
 -- Ascending pairs, with one more at the end or one fewer.
-use Rattle.std.proofs.Common.{◌≡◌, ◌++◌, ℕ, List, [], ◌∷◌, map, refl, ap, subst, ◌∙◌, Result, Ok, Err, OnOk, OnErr, Option, Some, None, MatchOption, Less}
+use Rattle.std.proofs.Common.{◌≡◌, ◌++◌, ℕ, List, [], ◌∷◌, map, refl, ap, sym, subst, ◌∙◌, Result, Ok, Err, OnOk, OnErr, Option, Some, None, MatchOption, Less}
 use Rattle.std.specs.List.{AllByRecursion}
 use Rattle.std.specs.Ordering.{nat_cmp}
 use Rattle.std.specs.Cmp.Lexicographic.{slice_cmp}
@@ -45,8 +45,14 @@ ascending_pop (Some last) old new is up =
     ascending_front (map pair_view new) (pair_view last ∷ []) (subst Ascending (ap (map pair_view) is ∙ map-append pair_view new (last ∷ [])) up)
 
 -- a key behind ascending pairs is above the last of them
-pub above_seam : (xs : List (List ℕ × List ℕ)) (x : List ℕ × List ℕ) (ys : List (List ℕ × List ℕ)) → Ascending (xs ++ x ∷ ys) → IsAboveLast xs x.0
+above_seam : (xs : List (List ℕ × List ℕ)) (x : List ℕ × List ℕ) (ys : List (List ℕ × List ℕ)) → Ascending (xs ++ x ∷ ys) → IsAboveLast xs x.0
 above_seam xs x ys up front last e = go front (subst (λ (l : List (List ℕ × List ℕ)). Ascending (l ++ x ∷ ys)) e up) where
   go : (front : List (List ℕ × List ℕ)) → Ascending ((front ++ last ∷ []) ++ x ∷ ys) → slice_cmp nat_cmp last.0 x.0 ≡ Less
   go [] up = up.0.0
   go (f ∷ front) up = go front up.1
+
+-- the key of the next of ascending pairs is above the last of those taken
+pub above_taken : (taken : List (List ℕ × List ℕ)) (x : List ℕ × List ℕ) (rest left all : List (List ℕ × List ℕ)) → taken ++ left ≡ all → left ≡ x ∷ rest → Ascending all
+    → IsAboveLast taken x.0
+above_taken taken x rest left all joined next up =
+    above_seam taken x rest (subst Ascending (sym joined ∙ ap (λ (l : List (List ℕ × List ℕ)). taken ++ l) next) up)

@@ -1,54 +1,59 @@
 -- Parts that are not empty, decoded one by one.
-use Rattle.std.proofs.Common.{◌≡◌, ◌≢◌, ◌++◌, ℕ, Bool, true, false, List, [], ◌∷◌, map, length, refl, sym, ◌∙◌, append_assoc, arith, eqb}
+use Rattle.std.proofs.Common.{◌≡◌, ◌++◌, ℕ, List, [], ◌∷◌, map, refl, ap, sym, ◌∙◌, subst, append_assoc, Option, Some, inl, inr}
 use Rattle.std.specs.List.{AllByRecursion}
-use Rattle.std.proofs.lemmas.Bool.{false≢true, eqb-true}
+use Rattle.std.proofs.lemmas.Bool.{cases_Bool}
+use Rattle.vx_spec.specs.Marks.{IsCut}
 use Rattle.vx_text.specs.Escapes.{unescaped}
+use Rattle.vx_text.proofs.Joins.{parts_behind, split_cut}
 use Rattle.purl_core.specs.Grammar.{kept}
 use Rattle.purl_core.specs.Value.{is_dots}
 use Rattle.purl_core.specs.Reads.{IsText, without_dots}
 
-pub some_if : (part : List ℕ) (told : Bool) → told ≡ eqb (length part) 0 → told ≡ false → part ≢ []
-some_if [] told is out e = false≢true (sym out ∙ is)
-some_if (b ∷ part) told is out e = cc e
+first_kept : (front : List ℕ) (parts : List (List ℕ)) → kept (front ∷ parts) ≡ kept (front ∷ []) ++ kept parts
+first_kept [] parts = refl
+first_kept (b ∷ front) parts = refl
 
-pub none_if : (part : List ℕ) (told : Bool) → told ≡ eqb (length part) 0 → told ≡ true → part ≡ []
-none_if [] told is all = refl
-none_if (b ∷ part) told is all = absurd (omega (arith, eqb-true (length (b ∷ part)) 0 (sym is ∙ all)))
+-- the parts of what is left are those of the cut's front and of what stands behind it
+left_is : (c : ℕ) (text front : List ℕ) (behind : Option (List ℕ)) → IsCut c text front behind → kept (parts_behind c (Some text)) ≡ kept (front ∷ []) ++ kept (parts_behind c behind)
+left_is c text front behind cut = ap kept (split_cut c text front behind cut) ∙ first_kept front (parts_behind c behind)
 
--- the texts so far and those of what is left are all
-pub record IsLeft (texts : List (List ℕ)) (left all : List (List ℕ)) : Type 0 where
-  pub joined : texts ++ map unescaped (kept left) ≡ all
-  pub good : AllByRecursion IsText (kept left)
+both_text : (xs ys : List (List ℕ)) → AllByRecursion IsText (xs ++ ys) → AllByRecursion IsText xs × AllByRecursion IsText ys
+both_text [] ys all = (tt, all)
+both_text (x ∷ xs) ys all = let r = both_text xs ys all.1 in ((all.0, r.0), r.1)
 
-pub keeps : (texts : List (List ℕ)) (part : List ℕ) (left all : List (List ℕ)) → part ≢ [] → IsLeft texts (part ∷ left) all → IsLeft (texts ++ unescaped part ∷ []) left all
-keeps texts [] left all some h = absurd (some refl)
-keeps texts (b ∷ part) left all some h = record {
-  joined = append_assoc texts (unescaped (b ∷ part) ∷ []) (map unescaped (kept left)) ∙ h.joined;
-  good = h.good.1;
-}
+pub text_left : (c : ℕ) (text front : List ℕ) (behind : Option (List ℕ)) → IsCut c text front behind → AllByRecursion IsText (kept (parts_behind c (Some text)))
+    → AllByRecursion IsText (kept (front ∷ [])) × AllByRecursion IsText (kept (parts_behind c behind))
+text_left c text front behind cut all = both_text (kept (front ∷ [])) (kept (parts_behind c behind)) (subst (AllByRecursion IsText) (left_is c text front behind cut) all)
 
-pub skips : (texts : List (List ℕ)) (part : List ℕ) (left all : List (List ℕ)) → part ≡ [] → IsLeft texts (part ∷ left) all → IsLeft texts left all
-skips texts [] left all none h = record { joined = h.joined; good = h.good }
-skips texts (b ∷ part) left all none h = cc none
+-- ---- texts that a function makes of each part
 
--- the same without '.' and '..'
-pub record IsSegmentLeft (texts : List (List ℕ)) (left all : List (List ℕ)) : Type 0 where
-  pub joined : texts ++ without_dots (map unescaped (kept left)) ≡ all
-  pub good : AllByRecursion IsText (kept left)
+module _ (made : List (List ℕ) → List (List ℕ)) (apart : (xs ys : List (List ℕ)) → made (xs ++ ys) ≡ made xs ++ made ys) where
+  more_made : (c : ℕ) (text front : List ℕ) (behind : Option (List ℕ)) (texts all : List (List ℕ)) → IsCut c text front behind
+      → texts ++ made (kept (parts_behind c (Some text))) ≡ all → (texts ++ made (kept (front ∷ []))) ++ made (kept (parts_behind c behind)) ≡ all
+  more_made c text front behind texts all cut e =
+      append_assoc texts (made (kept (front ∷ []))) (made (kept (parts_behind c behind)))
+      ∙ ap (λ (l : List (List ℕ)). texts ++ l) (sym (apart (kept (front ∷ [])) (kept (parts_behind c behind))))
+      ∙ ap (λ (l : List (List ℕ)). texts ++ made l) (sym (left_is c text front behind cut)) ∙ e
 
-pub keeps_segment : (texts : List (List ℕ)) (part : List ℕ) (left all : List (List ℕ)) → part ≢ [] → is_dots (unescaped part) ≡ false → IsSegmentLeft texts (part ∷ left) all
-    → IsSegmentLeft (texts ++ unescaped part ∷ []) left all
-keeps_segment texts [] left all some plain h = absurd (some refl)
-keeps_segment texts (b ∷ part) left all some plain h = record {
-  joined = append_assoc texts (unescaped (b ∷ part) ∷ []) (without_dots (map unescaped (kept left))) ∙ (rw plain at h.joined);
-  good = h.good.1;
-}
+map_apart : (xs ys : List (List ℕ)) → map unescaped (xs ++ ys) ≡ map unescaped xs ++ map unescaped ys
+map_apart [] ys = refl
+map_apart (x ∷ xs) ys = ap (λ (l : List (List ℕ)). unescaped x ∷ l) (map_apart xs ys)
 
-pub drops_segment : (texts : List (List ℕ)) (part : List ℕ) (left all : List (List ℕ)) → part ≢ [] → is_dots (unescaped part) ≡ true → IsSegmentLeft texts (part ∷ left) all
-    → IsSegmentLeft texts left all
-drops_segment texts [] left all some dots h = absurd (some refl)
-drops_segment texts (b ∷ part) left all some dots h = record { joined = rw dots at h.joined; good = h.good.1 }
+dots_apart : (xs ys : List (List ℕ)) → without_dots (xs ++ ys) ≡ without_dots xs ++ without_dots ys
+dots_apart [] ys = refl
+dots_apart (x ∷ xs) ys = elim (cases_Bool (is_dots x)) [
+  | inl dots ↦ rw dots (dots_apart xs ys)
+  | inr none ↦ rw none (ap (λ (l : List (List ℕ)). x ∷ l) (dots_apart xs ys))
+]
 
-pub skips_segment : (texts : List (List ℕ)) (part : List ℕ) (left all : List (List ℕ)) → part ≡ [] → IsSegmentLeft texts (part ∷ left) all → IsSegmentLeft texts left all
-skips_segment texts [] left all none h = record { joined = h.joined; good = h.good }
-skips_segment texts (b ∷ part) left all none h = cc none
+-- one part more
+pub more_decoded : (c : ℕ) (text front : List ℕ) (behind : Option (List ℕ)) (texts all : List (List ℕ)) → IsCut c text front behind
+    → texts ++ map unescaped (kept (parts_behind c (Some text))) ≡ all
+    → (texts ++ map unescaped (kept (front ∷ []))) ++ map unescaped (kept (parts_behind c behind)) ≡ all
+more_decoded = more_made (map unescaped) map_apart
+
+-- one part more, without '.' and '..'
+pub more_segments : (c : ℕ) (text front : List ℕ) (behind : Option (List ℕ)) (texts all : List (List ℕ)) → IsCut c text front behind
+    → texts ++ without_dots (map unescaped (kept (parts_behind c (Some text)))) ≡ all
+    → (texts ++ without_dots (map unescaped (kept (front ∷ [])))) ++ without_dots (map unescaped (kept (parts_behind c behind))) ≡ all
+more_segments = more_made (λ parts. without_dots (map unescaped parts)) (λ xs ys. ap without_dots (map_apart xs ys) ∙ dots_apart (map unescaped xs) (map unescaped ys))

@@ -4,6 +4,7 @@ pub mod Cuts
 pub mod Joined
 pub mod Kept
 pub mod Lacking
+pub mod OneRefusal
 pub mod OneValue
 pub mod PartLaws
 pub mod Pieces

@@ -1,11 +1,11 @@
--- The size of a split text, and the value behind a cut.
-use Rattle.std.proofs.Common.{◌≡◌, ◌<◌, ◌+◌, ◌++◌, ℕ, List, [], ◌∷◌, length, eqb, refl, ap, ◌∙◌, arith, length-append, append-nil, Some, None}
+-- The parts of a text that is cut at each mark, and the value behind a cut.
+use Rattle.std.proofs.Common.{◌≡◌, ◌<◌, ◌+◌, ◌++◌, ℕ, List, [], ◌∷◌, length, eqb, refl, sym, ap, ◌∙◌, arith, length-append, append_assoc, append-nil, Option, Some, None}
 use Rattle.std.specs.List.{join_with_byte, slice_split}
 use Rattle.std.proofs.lemmas.Bool.{ne_eqb}
 use Rattle.std.proofs.lemmas.List.Splits.{join_with_byte-slice_split}
 use Rattle.vx_spec.specs.Marks.{IsCut, Lacks}
-use Rattle.vx_text.proofs.Joins.{split_some}
-use Rattle.purl_core.specs.Places.{value_in}
+use Rattle.vx_text.proofs.Joins.{parts_behind, split_cut, split_some}
+use Rattle.purl_core.specs.Places.{places, value_in, with_sign}
 use Rattle.purl_core.specs.Placing.{total}
 
 total_join : (c : ℕ) (x : List ℕ) (xs : List (List ℕ)) → total (x ∷ xs) ≡ length (join_with_byte c (x ∷ xs)) + 1
@@ -34,3 +34,21 @@ value_cut at piece front value cut = ap (value_in at) cut.joined ∙ value_front
 
 pub value_uncut : (at : ℕ) (piece front : List ℕ) → IsCut 61 piece front None → value_in at piece ≡ []
 value_uncut at piece front cut = ap (value_in at) (cut.joined ∙ append-nil front) ∙ value_none at front cut.first
+
+-- ---- one part more
+
+first_place : (at : ℕ) (front : List ℕ) (parts : List (List ℕ)) → places at (front ∷ parts) ≡ places at (front ∷ []) ++ places (at + (length front + 1)) parts
+first_place at [] parts = ap (λ (i : ℕ). places i parts) (omega arith)
+first_place at (b ∷ front) parts = ap (λ (i : ℕ). (at, b ∷ front) ∷ places i parts) (omega arith)
+
+pub more_placed : (c at : ℕ) (text front : List ℕ) (behind : Option (List ℕ)) (found all : List (ℕ × List ℕ)) → IsCut c text front behind
+    → found ++ places at (parts_behind c (Some text)) ≡ all → (found ++ places at (front ∷ [])) ++ places (at + (length front + 1)) (parts_behind c behind) ≡ all
+more_placed c at text front behind found all cut e =
+    append_assoc found (places at (front ∷ [])) (places (at + (length front + 1)) (parts_behind c behind))
+    ∙ ap (λ (parts : List (ℕ × List ℕ)). found ++ parts) (sym (first_place at front (parts_behind c behind)))
+    ∙ ap (λ (parts : List (List ℕ)). found ++ places at parts) (sym (split_cut c text front behind cut)) ∙ e
+
+-- the bytes of a cut text
+pub cut_size : (c : ℕ) (text front : List ℕ) (behind : Option (List ℕ)) → IsCut c text front behind → length text + 1 ≡ length front + 1 + with_sign behind
+cut_size c text front None cut = omega (arith, ap length cut.joined, length-append front [])
+cut_size c text front (Some rest) cut = omega (arith, ap length cut.joined, length-append front (c ∷ rest))

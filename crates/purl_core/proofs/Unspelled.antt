@@ -80,12 +80,12 @@ all_text : (parts : Parts) (p : Package) → IsValued parts p → AllText (compo
 all_text parts p v =
     each_component IsText parts v.pairs (text_parts _ v.path_good) (text_parts _ v.version_good) v.pairs_are (text_pairs v.pairs v.values_good) (text_parts _ v.subpath_good)
 
-no_escape : (xs : List (ℕ × List ℕ)) (at : ℕ) → IsEscapeAt xs at → ¬ (AllWhole xs)
+pub no_escape : (xs : List (ℕ × List ℕ)) (at : ℕ) → IsEscapeAt xs at → ¬ (AllWhole xs)
 no_escape [] at h all = h
 no_escape (x ∷ xs) at (inl h) all = not_whole x.1 h.0 h.1 all.0
 no_escape (x ∷ xs) at (inr h) all = no_escape xs at h.1 all.1
 
-no_other : (xs : List (ℕ × List ℕ)) (at : ℕ) → IsNotTextAt xs at → ¬ (AllText xs)
+pub no_other : (xs : List (ℕ × List ℕ)) (at : ℕ) → IsNotTextAt xs at → ¬ (AllText xs)
 no_other [] at h all = h
 no_other (x ∷ xs) at (inl h) all = h.0 all.0
 no_other (x ∷ xs) at (inr h) all = no_other xs at h.1 all.1
@@ -111,7 +111,7 @@ all_middle : (P : List ℕ × List ℕ → Type 0) (xs : List (List ℕ × List 
 all_middle P [] x ys all = all.0
 all_middle P (y ∷ xs) x ys all = all_middle P xs x ys all.1
 
-not_twice : (xs : List (List ℕ × List ℕ)) (x : List ℕ × List ℕ) (ys : List (List ℕ × List ℕ)) → Distinct (xs ++ x ∷ ys) → ¬ (HasKey x.0 xs)
+pub not_twice : (xs : List (List ℕ × List ℕ)) (x : List ℕ × List ℕ) (ys : List (List ℕ × List ℕ)) → Distinct (xs ++ x ∷ ys) → ¬ (HasKey x.0 xs)
 not_twice [] x ys all h = h
 not_twice (y ∷ xs) x ys all (inl e) = all_middle (λ (z : List ℕ × List ℕ). y.0 ≢ z.0) xs x ys all.0 (sym e)
 not_twice (y ∷ xs) x ys all (inr h) = not_twice xs x ys all.1 h
@@ -122,10 +122,10 @@ no_duplicate keyed at dup all =
     ap without_places dup.split ∙ map-append (λ (entry : ℕ × (List ℕ × List ℕ)). entry.1) dup.before ((at, dup.pair) ∷ dup.behind) in
     not_twice (without_places dup.before) dup.pair (without_places dup.behind) (subst Distinct split all) dup.twice
 
-with_scheme : (text : List ℕ) (p : Parts) → IsWritten text p → WithScheme text
+pub with_scheme : (text : List ℕ) (p : Parts) → IsWritten text p → WithScheme text
 with_scheme text p w = record { body = w.body; qualifiers = p.qualifiers; subpath = p.subpath; scheme = p.scheme; rest = w.rest; ended = w.ended; scheme_is = w.scheme_is }
 
-with_type : (text : List ℕ) (p : Parts) → IsWritten text p → WithType text
+pub with_type : (text : List ℕ) (p : Parts) → IsWritten text p → WithType text
 with_type text p w = record {
   body = w.body;
   qualifiers = p.qualifiers;

@@ -1,5 +1,5 @@
 -- What reading a package URL answers.
-use Rattle.std.specs.Prelude.{◌≡◌, ℕ, List, Result, Ok, Err}
+use Rattle.std.specs.Prelude.{◌≡◌, ◌≢◌, ℕ, List, Result, Ok, Err}
 use Rattle.purl_core.specs.Grammar.{Parts, IsWritten, WithScheme, WithType}
 use Rattle.purl_core.specs.Value.{Package}
 use Rattle.purl_core.specs.Spelling.{SpellsPurl}
@@ -28,3 +28,7 @@ IsReadAs text (Err fault) = IsRefused text fault
 -- a text that is refused for another cause than want of memory spells no package URL
 abbrev pub RefusedIsUnspelled : Type 0
 RefusedIsUnspelled = (text : List ℕ) (fault : PurlFault) (p : Package) → IsRefused text fault → SpellsPurl text p → fault ≡ NoMemory
+
+-- want of memory aside, a text is refused for one cause, at one place
+abbrev pub OneRefusal : Type 0
+OneRefusal = (text : List ℕ) (fault other : PurlFault) → IsRefused text fault → IsRefused text other → fault ≢ NoMemory → other ≢ NoMemory → fault ≡ other

@@ -10,7 +10,7 @@ mod value;
 mod writing;
 
 pub use fault::PurlFault;
-pub use reading::{one_purl, read, refused_is_unspelled, spelled_is_valid};
+pub use reading::{one_purl, one_refusal, read, refused_is_unspelled, spelled_is_valid};
 pub use value::{Pair, Pairs, Purl, Segments};
 pub use writing::{printed_spells, write};
 

@@ -84,17 +84,9 @@ pub(crate) fn decoded(alloc: Global, bytes: &[u8]) -> Result<Text, NoMemory>
     ensures { IfOk result (λ text. text ≡ unescaped bytes.now) }
 {
     match percent_decode(bytes).decode_utf8(alloc) {
-        Ok(plain) => text_of(alloc, plain.as_str()),
+        Ok(plain) => Ok(Text::from_string(plain.into_owned(alloc)?)),
         Err(_) => Err(NoMemory),
     }
-}
-
-fn text_of(alloc: Global, text: &str) -> Result<Text, NoMemory>
-    ensures { IfOk result (λ copy. copy ≡ text.now) }
-{
-    let mut copy = Text::new(alloc);
-    copy.push_str(text)?;
-    Ok(copy)
 }
 
 /// The pairs of a map, in the order of their keys.
@@ -105,7 +97,7 @@ fn in_order(alloc: Global, found: BTreeMap<String, Text>) -> Result<Pairs, NoMem
     let mut found = found;
     let mut pairs = Pairs::new(alloc);
     'entries: while let Some((key, value)) = found.pop_first() {
-        let key = text_of(alloc, key.as_str())?;
+        let key = Text::from_string(key);
         pairs.push(Pair { key, value })?;
     }
     Ok(pairs)

@@ -1,11 +1,11 @@
-ghost use Rattle.std.specs.Prelude.{◌≡◌, ◌==◌, ◌+◌, ◌++◌, ◌<◌, ◌^◌, ◌↔◌, [], ◌∷◌, map, length, IfOk, IsTrue, IsUtf8, MatchOption};
+ghost use Rattle.std.specs.Prelude.{◌≡◌, ◌==◌, ◌+◌, ◌++◌, ◌<◌, ◌^◌, ◌↔◌, [], ◌∷◌, map, length, IfOk, OnOk, IsTrue, IsUtf8, MatchOption};
 ghost use Rattle.std.specs.List.{list_all, slice_split};
 ghost use Rattle.std.specs.Option.{option_copied};
 ghost use Rattle.vx_text.specs.Escapes.{unescaped};
 ghost use Rattle.purl_core.specs.Value.{is_key, is_key_byte};
 ghost use Rattle.purl_core.specs.Spelling.{IsPiece};
 ghost use Rattle.purl_core.specs.Places.{AllPieces, AllText, AllWhole, IsBadPieceAt, IsEscapeAt, IsNotTextAt, NoPiece, placed, places, value_in, values, with_sign};
-ghost use Rattle.purl_core.specs.Placing.{AllFit, part_view, total};
+ghost use Rattle.purl_core.specs.Placing.{AllFit, part_view};
 
 use crate::cutting::cut;
 use percent_encoding::percent_decode;
@@ -19,76 +19,71 @@ pub(crate) struct Part<'a> {
     pub(crate) bytes: &'a [u8],
 }
 
-pub(crate) fn split(alloc: Global, text: &[u8], mark: u8) -> Result<Vec<&[u8]>, AllocError>
-    ensures { IfOk result (λ v. map (λ part. part.now) v.items ≡ slice_split (λ b. b == mark) text.now) }
-{
-    text.split(|byte| *byte == mark).collect(alloc)
-}
-
-fn with_places<'a>(
-    alloc: Global,
+/// Appends a part, unless it is empty.
+pub(crate) fn push_part<'a>(
+    out: &mut Vec<Part<'a>>,
     at: usize,
-    parts: &[&'a [u8]],
-) -> Result<Vec<Part<'a>>, AllocError>
-    requires { at + total (map (λ part. part.now) parts.now) < 2 ^ 64 }
-    ensures { IfOk result (λ v. map part_view v.items ≡ places at (map (λ part. part.now) parts.now)) }
+    bytes: &'a [u8],
+) -> Result<(), AllocError>
+    ensures { OnOk result (map part_view out.new.items ≡ map part_view out.old.items ++ places at (bytes.entry.now ∷ [])) }
 {
-    let mut out = Vec::new(alloc);
-    let mut place = at;
-    for part in parts {
-        if !part.is_empty() {
-            out.push(Part {
-                at: place,
-                bytes: part,
-            })?;
-        }
-        place += part.len() + 1;
+    if !bytes.is_empty() {
+        out.push(Part { at, bytes })?;
     }
-    Ok(out)
+    Ok(())
 }
 
-/// The parts between the marks that are not empty, of a text that begins at this place.
-pub(crate) fn placed_parts(
-    alloc: Global,
+/// Appends the parts between the marks that are not empty, of a text that begins at this place.
+pub(crate) fn push_parts<'a>(
+    out: &mut Vec<Part<'a>>,
     at: usize,
-    text: &[u8],
+    text: &'a [u8],
     mark: u8,
-) -> Result<Vec<Part<'_>>, AllocError>
+) -> Result<(), AllocError>
     requires { at + length text.now + 1 < 2 ^ 64 }
-    ensures { IfOk result (λ v. map part_view v.items ≡ places at (slice_split (λ b. b == mark) text.now)) }
+    ensures { OnOk result (map part_view out.new.items ≡ map part_view out.old.items ++ places at (slice_split (λ b. b == mark) text.entry.now)) }
 {
-    let parts = split(alloc, text, mark)?;
-    with_places(alloc, at, &parts)
+    let mut place = at;
+    let mut rest = Some(text);
+    'parts: while let Some(more) = rest {
+        let (part, behind) = cut(more, mark);
+        push_part(out, place, part)?;
+        place += part.len() + 1;
+        rest = behind;
+    }
+    Ok(())
 }
 
 /// The same of a text that may be absent.
-pub(crate) fn placed_optional(
-    alloc: Global,
+pub(crate) fn push_optional<'a>(
+    out: &mut Vec<Part<'a>>,
     at: usize,
-    text: Option<&[u8]>,
+    text: Option<&'a [u8]>,
     mark: u8,
-) -> Result<Vec<Part<'_>>, AllocError>
+) -> Result<(), AllocError>
     requires { at + with_sign (option_copied text) < 2 ^ 64 }
-    ensures { IfOk result (λ v. map part_view v.items ≡ placed at mark (option_copied text.entry)) }
+    ensures { OnOk result (map part_view out.new.items ≡ map part_view out.old.items ++ placed at mark (option_copied text.entry)) }
 {
     match text {
-        Some(text) => placed_parts(alloc, at, text, mark),
-        None => Ok(Vec::new(alloc)),
+        Some(text) => push_parts(out, at, text, mark),
+        None => Ok(()),
     }
 }
 
-/// The values of the pieces: what stands behind the first '=' of each.
-pub(crate) fn values<'a>(alloc: Global, pieces: &[Part<'a>]) -> Result<Vec<Part<'a>>, AllocError>
+/// Appends the values of the pieces: what stands behind the first '=' of each.
+pub(crate) fn push_values<'a>(
+    out: &mut Vec<Part<'a>>,
+    pieces: &[Part<'a>],
+) -> Result<(), AllocError>
     requires { AllFit (map part_view pieces.now) }
-    ensures { IfOk result (λ v. map part_view v.items ≡ values (map part_view pieces.now)) }
+    ensures { OnOk result (map part_view out.new.items ≡ map part_view out.old.items ++ values (map part_view pieces.now)) }
 {
-    let mut out = Vec::new(alloc);
     for piece in pieces {
         if let Some(value) = value_of(*piece) {
             out.push(value)?;
         }
     }
-    Ok(out)
+    Ok(())
 }
 
 fn value_of(piece: Part) -> Option<Part>

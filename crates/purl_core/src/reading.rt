@@ -9,14 +9,15 @@ ghost use Rattle.purl_core.specs.Spelling.{SpellsPurl, listed, not_empty, pieces
 ghost use Rattle.purl_core.specs.Cutting.{parts};
 ghost use Rattle.purl_core.specs.Places.{AllPieces, AllText, AllWhole, components, path_at, pieces_of, placed_whole, qualifiers_at, subpath_at, version_at, with_sign};
 ghost use Rattle.purl_core.specs.Placing.{part_view, size};
-ghost use Rattle.purl_core.specs.Reading.{IsReadAs, RefusedIsUnspelled};
+ghost use Rattle.purl_core.specs.Reading.{IsReadAs, OneRefusal, RefusedIsUnspelled};
 ghost use Rattle.purl_core.specs.Reads.{IsChecked, IsText, without_dots};
 
-use crate::cutting::{CutFault, Raw, cut_raw};
+use crate::cutting::{CutFault, Raw, cut, cut_raw};
 use crate::fault::PurlFault;
 use crate::pairing::{decoded, paired};
 use crate::placing::{
-    Part, first_bad, first_escape, first_not_text, placed_optional, placed_parts, split, values,
+    Part, first_bad, first_escape, first_not_text, push_optional, push_part, push_parts,
+    push_values,
 };
 use crate::value::{Pairs, Purl, Segments};
 use std::alloc::{AllocError, Global};
@@ -39,13 +40,23 @@ fn read_parts(alloc: Global, text: &str, raw: &Raw) -> Result<Purl, PurlFault>
     requires { IsWritten text.now (parts raw.now) }
     ensures { IsReadAs text.now result }
 {
-    let Ok(pieces) = placed_optional(alloc, qualifiers_at(raw), raw.qualifiers, b'&') else {
+    let Ok(pieces) = qualifier_pieces(alloc, raw) else {
         return Err(PurlFault::NoMemory);
     };
     match check(alloc, raw, &pieces) {
         Ok(()) => make(alloc, text, raw, &pieces),
         Err(fault) => Err(fault),
     }
+}
+
+/// The pieces of the qualifiers, with their places.
+fn qualifier_pieces<'a>(alloc: Global, raw: &Raw<'a>) -> Result<Vec<Part<'a>>, AllocError>
+    requires { size (parts raw.now) + 1 < 2 ^ 64 }
+    ensures { IfOk result (λ v. map part_view v.items ≡ pieces_of (parts raw.now)) }
+{
+    let mut pieces = Vec::new(alloc);
+    push_optional(&mut pieces, qualifiers_at(raw), raw.qualifiers, b'&')?;
+    Ok(pieces)
 }
 
 fn path_at(raw: &Raw) -> usize
@@ -119,12 +130,11 @@ fn components<'a>(
     requires pieces { map part_view pieces.now ≡ pieces_of (parts raw.now) }
     ensures { IfOk result (λ v. map part_view v.items ≡ components (parts raw.now)) }
 {
-    let mut all = placed_parts(alloc, path_at(raw), raw.path, b'/')?;
+    let mut all = Vec::new(alloc);
+    push_parts(&mut all, path_at(raw), raw.path, b'/')?;
     push_whole(&mut all, version_at(raw), raw.version)?;
-    let found = values(alloc, pieces)?;
-    all.extend_from_slice(found.as_slice())?;
-    let subpath = placed_optional(alloc, subpath_at(raw), raw.subpath, b'/')?;
-    all.extend_from_slice(subpath.as_slice())?;
+    push_values(&mut all, pieces)?;
+    push_optional(&mut all, subpath_at(raw), raw.subpath, b'/')?;
     Ok(all)
 }
 
@@ -136,13 +146,10 @@ fn push_whole<'a>(
 ) -> Result<(), AllocError>
     ensures { OnOk result (map part_view all.new.items ≡ map part_view all.old.items ++ placed_whole at (option_copied version.entry)) }
 {
-    let Some(bytes) = version else {
-        return Ok(());
-    };
-    if !bytes.is_empty() {
-        all.push(Part { at, bytes })?;
+    match version {
+        Some(bytes) => push_part(all, at, bytes),
+        None => Ok(()),
     }
-    Ok(())
 }
 
 /// The value of checked parts.
@@ -180,23 +187,27 @@ fn low_kind(alloc: Global, kind: &[u8]) -> Result<Text, NoMemory>
 /// The segments of a path.
 fn path_texts(alloc: Global, path: &[u8]) -> Result<Segments, NoMemory>
     requires { AllByRecursion IsText (pieces 47 (Some path.now)) }
-    ensures { IfOk result (λ texts. texts ≡ map unescaped (pieces 47 (Some path.now))) }
-{
-    let parts = split(alloc, path, b'/')?;
-    decoded_parts(alloc, parts.as_slice())
-}
-
-fn decoded_parts(alloc: Global, parts: &[&[u8]]) -> Result<Segments, NoMemory>
-    requires { AllByRecursion IsText (kept (map (λ part. part.now) parts.now)) }
-    ensures { IfOk result (λ texts. texts ≡ map unescaped (kept (map (λ part. part.now) parts.now))) }
+    ensures { IfOk result (λ texts. texts ≡ map unescaped (pieces 47 (Some path.entry.now))) }
 {
     let mut texts = Segments::new(alloc);
-    for part in parts {
-        if !part.is_empty() {
-            texts.push(decoded(alloc, part)?)?;
-        }
+    let mut rest = Some(path);
+    'parts: while let Some(more) = rest {
+        let (part, behind) = cut(more, b'/');
+        push_decoded(alloc, &mut texts, part)?;
+        rest = behind;
     }
     Ok(texts)
+}
+
+/// Appends what a part stands for, unless it is empty.
+fn push_decoded(alloc: Global, texts: &mut Segments, part: &[u8]) -> Result<(), NoMemory>
+    requires { AllByRecursion IsText (kept (part.now ∷ [])) }
+    ensures { OnOk result (texts.new ≡ texts.old ++ map unescaped (kept (part.now ∷ []))) }
+{
+    if part.is_empty() {
+        return Ok(());
+    }
+    texts.push(decoded(alloc, part)?)
 }
 
 /// The version, if there is one that is not empty.
@@ -219,27 +230,29 @@ fn subpath_texts(alloc: Global, subpath: Option<&[u8]>) -> Result<Segments, NoMe
     requires { AllByRecursion IsText (pieces 47 (option_copied subpath)) }
     ensures { IfOk result (λ texts. texts ≡ without_dots (map unescaped (pieces 47 (option_copied subpath.entry)))) }
 {
-    let Some(bytes) = subpath else {
-        return Ok(Segments::new(alloc));
-    };
-    let parts = split(alloc, bytes, b'/')?;
-    decoded_segments(alloc, parts.as_slice())
-}
-
-fn decoded_segments(alloc: Global, parts: &[&[u8]]) -> Result<Segments, NoMemory>
-    requires { AllByRecursion IsText (kept (map (λ part. part.now) parts.now)) }
-    ensures { IfOk result (λ texts. texts ≡ without_dots (map unescaped (kept (map (λ part. part.now) parts.now)))) }
-{
     let mut texts = Segments::new(alloc);
-    for part in parts {
-        if !part.is_empty() {
-            let text = decoded(alloc, part)?;
-            if !is_dots(text.as_str().as_bytes()) {
-                texts.push(text)?;
-            }
-        }
+    let mut rest = subpath;
+    'parts: while let Some(more) = rest {
+        let (part, behind) = cut(more, b'/');
+        push_segment(alloc, &mut texts, part)?;
+        rest = behind;
     }
     Ok(texts)
+}
+
+/// Appends what a part stands for, unless it is empty or stands for '.' or '..'.
+fn push_segment(alloc: Global, texts: &mut Segments, part: &[u8]) -> Result<(), NoMemory>
+    requires { AllByRecursion IsText (kept (part.now ∷ [])) }
+    ensures { OnOk result (texts.new ≡ texts.old ++ without_dots (map unescaped (kept (part.now ∷ [])))) }
+{
+    if part.is_empty() {
+        return Ok(());
+    }
+    let text = decoded(alloc, part)?;
+    if is_dots(text.as_str().as_bytes()) {
+        return Ok(());
+    }
+    texts.push(text)
 }
 
 /// Whether the segment is '.' or '..'.
@@ -296,4 +309,9 @@ pub fn spelled_is_valid()
 /// The law that a text which is refused for another cause than want of memory spells no package URL.
 pub fn refused_is_unspelled()
     ensures { RefusedIsUnspelled }
+{}
+
+/// The law that a text is refused for one cause, at one place, want of memory aside.
+pub fn one_refusal()
+    ensures { OneRefusal }
 {}

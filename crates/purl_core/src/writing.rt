@@ -50,12 +50,12 @@ fn push_path(out: &mut Text, namespace: &[Text], name: &Text) -> Result<(), NoMe
     escape(name.as_str(), out)
 }
 
-/// Appends each part before a '/'.
-fn push_before(out: &mut Text, parts: &[Text]) -> Result<(), NoMemory>
-    ensures { OnOk result (out.new ≡ out.old ++ before 47 (map escaped parts.now)) }
+/// Appends each segment before a '/'.
+fn push_before(out: &mut Text, segments: &[Text]) -> Result<(), NoMemory>
+    ensures { OnOk result (out.new ≡ out.old ++ before 47 (map escaped segments.now)) }
 {
-    for part in parts {
-        escape(part.as_str(), out)?;
+    for segment in segments {
+        escape(segment.as_str(), out)?;
         out.push_str("/")?;
     }
     Ok(())

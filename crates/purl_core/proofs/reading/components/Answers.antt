@@ -4,5 +4,5 @@ use Rattle.purl_core.specs.Placing.{AllFit}
 use Rattle.purl_core.proofs.Sizes.{pieces_fit}
 use Rattle.purl_core.proofs.reading.components.Goals as goal
 
-pub values-requires : goal.values-requires
-values-requires c = subst AllFit (sym c.requires.pieces) (pieces_fit (parts c.args.raw.now) c.requires.size)
+pub push_values-requires : goal.push_values-requires
+push_values-requires c = subst AllFit (sym c.requires.pieces) (pieces_fit (parts c.args.raw.now) c.requires.size)
