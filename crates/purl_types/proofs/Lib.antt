@@ -1,0 +1,5 @@
+pub mod FoldLaws
+pub mod Letters
+pub mod Pairwise
+pub mod SameLaws
+pub mod Utf8

@@ -1,0 +1,4 @@
+pub mod Canonical
+pub mod Folding
+pub mod Same
+pub mod Table
