@@ -1,0 +1,40 @@
+ghost use Rattle.std.specs.Prelude.{◌≡◌, [], ◌∷◌, ◌++◌, OnOk, OnErr, IfOk, take};
+
+use std::alloc::Global;
+use vx_scheme::{List, NoMemory, Text, copy_text};
+
+/// A letter of a version's key.
+#[derive(Debug, Drop)]
+pub struct Letter {
+    /// What counts first.
+    pub rank: u32,
+    /// What counts among letters of one rank.
+    pub number: u128,
+    /// What counts last, byte by byte.
+    pub text: Text,
+}
+
+/// A list of letters.
+pub type Letters = List<Letter>;
+
+/// The same letters once more.
+pub fn copy_letters(alloc: Global, letters: &Letters) -> Result<Letters, NoMemory>
+    ensures { IfOk result (λ copied. copied ≡ letters.now) }
+{
+    let mut copied = Letters::new(alloc);
+    for letter in letters.as_slice() {
+        copied.push(copy_letter(alloc, letter)?)?;
+    }
+    Ok(copied)
+}
+
+fn copy_letter(alloc: Global, letter: &Letter) -> Result<Letter, NoMemory>
+    ensures { IfOk result (λ copied. copied ≡ letter.now) }
+{
+    let text = copy_text(alloc, &letter.text)?;
+    Ok(Letter {
+        rank: letter.rank,
+        number: letter.number,
+        text,
+    })
+}
