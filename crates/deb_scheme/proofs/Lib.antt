@@ -1,0 +1,4 @@
+pub mod Cutting
+pub mod PairLaws
+pub mod Giving
+pub mod Bytes

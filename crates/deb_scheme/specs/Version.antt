@@ -1,0 +1,75 @@
+-- A version after Debian Policy, 5.6.12: its fields, with numbers of any size and texts as their bytes; the letters of a
+-- part of its text; and the limit of numerals.
+use Rattle.std.specs.Prelude.{ℕ, zero, suc, ◌==◌, ◌<◌, ◌^◌, not, Bool, if◌then◌else◌, List, [], ◌∷◌, ◌++◌, length, map}
+use Rattle.std.specs.Char.{is_ascii_alphabetic, is_ascii_digit}
+use Rattle.std.specs.List.{AllByRecursion, flat_map}
+use Rattle.vx_spec.specs.Numerals.{value}
+use Rattle.vx_spec.specs.Runs.{run, past}
+use Rattle.vx_order.specs.declared.letter.Letter.{Letter}
+use Rattle.vx_order.specs.Letters.{end_letter}
+
+-- the fields: the text as it is written, the epoch, and the letters of the upstream part and of the revision
+pub record Fields : Type 0 where
+  pub text : List ℕ
+  pub epoch : ℕ
+  pub upstream : List Letter
+  pub revision : List Letter
+
+-- a byte that is no digit
+abbrev pub is_other : ℕ → Bool
+is_other b = not (is_ascii_digit b)
+
+-- a run of bytes that are no digits, and the run of digits behind it
+pub record Pair : Type 0 where
+  pub others : List ℕ
+  pub digits : List ℕ
+
+-- the pair at the front of a part, each run as long as it can be
+abbrev pub first_pair : List ℕ → Pair
+first_pair part = record { others = run is_other part; digits = run is_ascii_digit (past is_other part) }
+
+-- what stands behind that pair
+abbrev pub behind_pair : List ℕ → List ℕ
+behind_pair part = past is_ascii_digit (past is_other part)
+
+-- A part is read as such pairs, one behind the other to its end. A pair has a byte at least, so that a part has no more
+-- pairs than bytes.
+abbrev pub pairs_in : ℕ → List ℕ → List Pair
+pairs_in zero part = []
+pairs_in (suc most) [] = []
+pairs_in (suc most) (b ∷ part) = first_pair (b ∷ part) ∷ pairs_in most (behind_pair (b ∷ part))
+
+abbrev pub pairs_of : List ℕ → List Pair
+pairs_of part = pairs_in (length part) part
+
+-- '~' (126) is the lowest; below letters stands the end of a run (1), above them any other byte
+abbrev pub byte_rank : ℕ → ℕ
+byte_rank b = if b == 126 then 0 else (if is_ascii_alphabetic b then 2 else 3)
+
+-- a byte that is no digit
+abbrev pub byte_letter : ℕ → Letter
+byte_letter b = record { rank = byte_rank b; number = b; text = [] }
+
+-- the rank of the end of a run, which is the end of a list too
+abbrev pub end_rank : ℕ
+end_rank = 1
+
+-- a number, the empty one being 0
+abbrev pub number_letter : List ℕ → Letter
+number_letter digits = record { rank = 4; number = value digits; text = [] }
+
+-- each byte of the first run, then the run's end, then the number
+abbrev pub pair_letters : Pair → List Letter
+pair_letters pair = map byte_letter pair.others ++ (end_letter end_rank ∷ number_letter pair.digits ∷ [])
+
+-- the letters of a part
+abbrev pub letters_of : List ℕ → List Letter
+letters_of part = flat_map pair_letters (pairs_of part)
+
+-- a letter's number is within the limit of 128 bits
+abbrev pub LetterFits : Letter → Type 0
+LetterFits letter = letter.number < 2 ^ 128
+
+-- the epoch and each run of digits are within the limit of 128 bits (and so is each byte)
+abbrev pub Fits : Fields → Type 0
+Fits v = (v.epoch < 2 ^ 128) × AllByRecursion LetterFits v.upstream × AllByRecursion LetterFits v.revision

@@ -1,0 +1,16 @@
+//! Debian's versions, with numerals up to 2^128-1.
+#![tactic(auto)]
+
+mod letters;
+mod order;
+mod scheme;
+mod spelling;
+#[cfg(test)]
+mod tests;
+mod version;
+mod writing;
+
+pub use order::order_by_first_difference;
+pub use scheme::Deb;
+pub use spelling::is_version;
+pub use version::DebVersion;
