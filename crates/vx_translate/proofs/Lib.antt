@@ -1,1 +1,3 @@
+pub mod BackwardLaws
 pub mod ForwardLaws
+pub mod VersLaws

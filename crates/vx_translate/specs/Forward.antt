@@ -9,13 +9,15 @@ use Rattle.vx_interval.specs.Joined.{IsJoined}
 use Rattle.vx_simplify.specs.Listed.{list_of}
 use Rattle.vx_vers.specs.declared.constraints.Constraint.{Constraint}
 use Rattle.vx_vers.specs.Meaning.{meaning}
-use Rattle.vx_vers.specs.Sorted.{IsSorted}
 use Rattle.vx_vers.specs.Texts.{vers_text}
+use Rattle.vx_translate.specs.VersTexts.{IsReadAs}
 use Rattle.vx_translate.specs.declared.refusal.Refusal.{Refusal}
 use Rattle.vx_translate.specs.declared.refusal.Refusal.TheVariants as refusal_of
 
--- The text makes spans; where they are joined there is one at least; and the answer is the printed text of their list.
-pub record Translates {V : Type 0} (order : V → V → Ordering) (name : SchemeName) (normal : V → List ℕ) (Makes : List ℕ → List (List (List (Span V))) → Type 0) (text out : List ℕ) : Type 0 where
+-- The domain is offered, and the text makes spans; where they are joined there is one at least; and the answer is the
+-- printed text of their list.
+pub record Translates {V : Type 0} (order : V → V → Ordering) (name : SchemeName) (normal : V → List ℕ) (Offers : Type 0) (Makes : List ℕ → List (List (List (Span V))) → Type 0) (text out : List ℕ) : Type 0 where
+  pub offered : Offers
   pub bounds : List (List (List (Span V)))
   pub spans : List (Span V)
   pub made : Makes text bounds
@@ -23,11 +25,10 @@ pub record Translates {V : Type 0} (order : V → V → Ordering) (name : Scheme
   pub some : spans ≢ []
   pub printed : out ≡ vers_text name normal (list_of order spans)
 
--- The printed text is that of a sorted list which holds exactly the versions of the domain that are in the text.
-pub record HoldsSame {V : Type 0} (order : V → V → Ordering) (IsVersion InDomain : V → Type 0) (name : SchemeName) (normal : V → List ℕ) (In : List ℕ → V → Type 0) (text out : List ℕ) : Type 0 where
+-- The answer is read as a list, which holds exactly the versions of the domain that are in the text.
+pub record HoldsSame {V : Type 0} (name : SchemeName) (order : V → V → Ordering) (Spells : List ℕ → V → Type 0) (IsWithin IsVersion InDomain : V → Type 0) (In : List ℕ → V → Type 0) (text out : List ℕ) : Type 0 where
   pub list : List (Constraint V)
-  pub sorted : IsSorted order list
-  pub printed : out ≡ vers_text name normal list
+  pub read : IsReadAs name order Spells IsWithin out list
   pub same : (v : V) → IsVersion v → InDomain v → In text v ↔ (meaning order v list ≡ true)
 
 -- The text makes spans, and where they are joined there is none: no piece of the line is held.

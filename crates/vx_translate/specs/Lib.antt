@@ -1,4 +1,11 @@
+pub mod Backward
+pub mod Canon
+pub mod Canonical
 pub mod Domains
 pub mod Forward
+pub mod FromVers
+pub mod Has
+pub mod Having
 pub mod Refusals
 pub mod ToVers
+pub mod VersTexts

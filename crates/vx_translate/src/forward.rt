@@ -16,8 +16,8 @@ pub(crate) fn translate<N: Native>(
     domain: Domain,
     text: &str,
 ) -> Result<Text, Refusal>
-    ensures ok { IfOk result (Translates N.order N.name N.normal (N.Makes domain) text.now) }
-    ensures members { IfOk result (HoldsSame N.order N.IsVersion (InDomain N.Scheme domain) N.name N.normal N.In text.now) }
+    ensures ok { IfOk result (Translates N.order N.name N.normal (N.Offers domain) (N.Makes domain) text.now) }
+    ensures members { IfOk result (HoldsSame N.name N.order N.Spells N.IsWithin N.IsVersion (InDomain N.Scheme domain) N.In text.now) }
     ensures err { IfErr result (λ refusal. refusal ≢ refusal_of.NoMemory → Refuses N.order (N.Offers domain) (N.Makes domain) (N.Refuses domain) text.now refusal) }
     ensures empty { result ≡ Err Refusal.Empty → (v : N.Version) → N.IsVersion v → InDomain N.Scheme domain v → ¬ (N.In text.now v) }
 {

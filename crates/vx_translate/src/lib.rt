@@ -1,13 +1,20 @@
-//! Translations by the name of a scheme: native range texts to VERS texts.
+//! Translations by the name of a scheme: native range texts to VERS texts and back, canonical VERS texts, and whether
+//! a VERS text holds a version.
 #![tactic(auto)]
 
+mod backward;
+mod by_head;
+mod canonical;
 mod domains;
 mod forward;
+mod having;
 mod refusal;
 #[cfg(test)]
 mod tests;
 mod translating;
+mod vers_texts;
 
+pub use by_head::{canon, from_vers, has};
 pub use domains::default_domain;
 pub use refusal::{BackKind, Refusal, VersPart};
 pub use translating::to_vers;

@@ -1,4 +1,5 @@
-use vx_scheme::{EndKind, NoMemory, RangeFault};
+use vx_scheme::{BackFault, EndKind, NoMemory, RangeFault};
+use vx_vers::VersFault;
 
 /// Which part of a VERS text is refused.
 #[derive(Debug, Clone, Copy, PartialEq, Eq)]
@@ -81,6 +82,44 @@ impl From<RangeFault> for Refusal {
             RangeFault::Numeral(at) => Refusal::Numeral(at),
             RangeFault::NoEndpoint(kind, at) => Refusal::NoEndpoint(kind, at),
             RangeFault::NoMemory => Refusal::NoMemory,
+        }
+    }
+}
+
+impl From<VersFault> for Refusal {
+    ghost use Rattle.std.specs.Prelude.{◌≡◌};
+    ghost use Rattle.vx_translate.specs.Refusals.{refusal_of_vers};
+
+    ghost from_gives = { λ fault refusal. refusal ≡ refusal_of_vers fault };
+
+    fn from(fault: VersFault) -> Self {
+        match fault {
+            VersFault::Head => Refusal::BadVers(VersPart::Head, 0),
+            VersFault::Constraint(k) => Refusal::BadVers(VersPart::Constraint, k),
+            VersFault::Version(k) => Refusal::BadVers(VersPart::Version, k),
+            VersFault::Duplicate(k) => Refusal::BadVers(VersPart::Duplicate, k),
+            VersFault::StarNotAlone => Refusal::BadVers(VersPart::StarNotAlone, 0),
+            VersFault::Numeral(k) => Refusal::BadVers(VersPart::Numeral, k),
+            VersFault::NoMemory => Refusal::NoMemory,
+        }
+    }
+}
+
+impl From<BackFault> for Refusal {
+    ghost use Rattle.std.specs.Prelude.{◌≡◌};
+    ghost use Rattle.vx_translate.specs.Refusals.{refusal_of_back};
+
+    ghost from_gives = { λ fault refusal. refusal ≡ refusal_of_back fault };
+
+    fn from(fault: BackFault) -> Self {
+        match fault {
+            BackFault::NotOneInterval(k) => Refusal::NoNative(BackKind::NotOneInterval, k),
+            BackFault::PointHole(k) => Refusal::NoNative(BackKind::PointHole, k),
+            BackFault::LocalBound(k) => Refusal::NoNative(BackKind::LocalBound, k),
+            BackFault::LocalsApart(k) => Refusal::NoNative(BackKind::LocalsApart, k),
+            BackFault::NothingInDomain(k) => Refusal::NoNative(BackKind::NothingInDomain, k),
+            BackFault::NotBuilt => Refusal::NotBuilt,
+            BackFault::NoMemory => Refusal::NoMemory,
         }
     }
 }

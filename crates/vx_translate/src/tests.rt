@@ -1,6 +1,6 @@
 ghost use Rattle.std.specs.Prelude.{◌≡◌, ◌<◌};
 
-use crate::{Refusal, default_domain, to_vers};
+use crate::{Refusal, VersPart, canon, default_domain, from_vers, has, to_vers};
 use npm_range::NpmRange;
 use npm_scheme::NpmVersion;
 use std::alloc::Global;
@@ -127,7 +127,7 @@ fn ranges_are_translated_by_the_name(rt: HostRuntime) {
             "1 foo",
             Refusal::Syntax(2),
         ),
-        (SchemeName::Deb, Domain::All, ">= 1", Refusal::NotBuilt),
+        (SchemeName::Rpm, Domain::All, ">= 1", Refusal::NotBuilt),
     ] {
         match to_vers(alloc, name, domain, text) {
             Ok(_) => assert!(rt; false),
@@ -136,4 +136,136 @@ fn ranges_are_translated_by_the_name(rt: HostRuntime) {
     }
     assert_eq!(rt; default_domain(SchemeName::Npm), Domain::All);
     assert_eq!(rt; default_domain(SchemeName::Pypi), Domain::Releases);
+}
+
+// Lists of constraints and their npm texts, one of each a line.
+const LISTS: &str = "\
+*;*\n\
+1.0.0;1.0.0\n\
+!=1.0.0;<1.0.0 || >1.0.0\n\
+<1.0.0;<1.0.0\n\
+<=1.0.0;<=1.0.0\n\
+>1.0.0;>1.0.0\n\
+>=1.0.0;>=1.0.0\n\
+>=1.0.0|<2.0.0;>=1.0.0 <2.0.0\n\
+>1.0.0|<=2.0.0;>1.0.0 <=2.0.0\n\
+>=1.0.0|<=2.0.0;>=1.0.0 <=2.0.0\n\
+>1.0.0|<2.0.0;>1.0.0 <2.0.0\n\
+<1.0.0|>2.0.0;<1.0.0 || >2.0.0\n\
+<=1.0.0|>=2.0.0;<=1.0.0 || >=2.0.0\n\
+1.0.0|2.0.0;1.0.0 || 2.0.0\n\
+!=1.0.0|!=2.0.0;<1.0.0 || >1.0.0 <2.0.0 || >2.0.0\n\
+1.0.0|>=1.5.0|!=3.0.0;1.0.0 || >=1.5.0 <3.0.0 || >3.0.0\n\
+1.0.0|>=1.5.0;1.0.0 || >=1.5.0\n\
+<1.0.0|1.5.0;<1.0.0 || 1.5.0\n\
+<1.0.0|1.5.0|>=2.0.0;<1.0.0 || 1.5.0 || >=2.0.0\n\
+>=1.0.0|!=1.5.0|<2.0.0;>=1.0.0 <1.5.0 || >1.5.0 <2.0.0\n\
+>=1.0.0|<1.5.0|>=2.0.0|<3.0.0;>=1.0.0 <1.5.0 || >=2.0.0 <3.0.0\n\
+>=1.0.0|>=2.0.0;>=1.0.0\n\
+<1.0.0|<2.0.0;<2.0.0\n\
+>=1.0.0|1.5.0;>=1.0.0\n\
+1.0.0|<2.0.0;<2.0.0\n\
+1.0.0-a;1.0.0-a\n\
+>=1.0.0-a.1|<1.0.0;>=1.0.0-a.1 <1.0.0\n\
+!=1.0.0-a;<1.0.0-a || >1.0.0-a\n\
+1.0.0%2Bb;1.0.0\n\
+<1.0.0|!=1.5.0|>2.0.0;<1.0.0 || >2.0.0\n\
+!=1.0.0|>=1.5.0;>=1.5.0\n\
+>1.0.0|!=1.5.0;>1.0.0 <1.5.0 || >1.5.0\n\
+<2.0.0-0;<2.0.0-0\n\
+2.0.0|| 1.0.0 |;1.0.0 || 2.0.0";
+
+// Versions at the cuts of these lists, and around them.
+const GRID: &str = "\
+0.0.0-0 0.0.0 0.9.9 1.0.0-0 1.0.0-a 1.0.0-a.0 1.0.0-a.1 1.0.0-b 1.0.0 1.0.0+c 1.0.1-0 1.0.1 1.4.9 \
+1.5.0-0 1.5.0 1.5.1-0 1.9.9 2.0.0-0 2.0.0-0.0 2.0.0-rc.1 2.0.0 2.0.1-0 2.9.9 3.0.0-0 3.0.0 3.0.1-0 9.0.0";
+
+fn npm_list(alloc: Global, constraints: &str) -> Result<Text, NoMemory> {
+    let mut text = Text::new(alloc);
+    text.push_str("vers:npm/")?;
+    text.push_str(constraints)?;
+    Ok(text)
+}
+
+#[test]
+fn lists_are_translated_back(rt: HostRuntime) -> Result<(), Fail> {
+    let alloc = rt.alloc();
+    for row in LISTS.split('\n') {
+        let (constraints, wanted) = row.split_once(';').unwrap_or((row, ""));
+        let list = npm_list(alloc, constraints)?;
+        let printed = from_vers(alloc, None, list.as_str())?;
+        assert_eq!(rt; printed.as_str(), wanted);
+    }
+    Ok(())
+}
+
+#[test]
+fn printed_ranges_hold_the_versions_of_their_lists(rt: HostRuntime) -> Result<(), Fail> {
+    let alloc = rt.alloc();
+    for row in LISTS.split('\n') {
+        let (constraints, range) = row.split_once(';').unwrap_or((row, ""));
+        let list = npm_list(alloc, constraints)?;
+        let again = to_vers(alloc, SchemeName::Npm, Domain::All, range)?;
+        for version in GRID.split(' ') {
+            let held = has(alloc, list.as_str(), version)?;
+            assert_eq!(rt; has(alloc, again.as_str(), version)?, held);
+        }
+    }
+    Ok(())
+}
+
+#[test]
+fn lists_hold_versions(rt: HostRuntime) {
+    let alloc = rt.alloc();
+    for (text, version, answer) in [
+        ("VERS:npm/ >= 2.0.0 | 1.0.0", "1.0.0", Ok(true)),
+        ("vers:npm/!=1.0.0", "1.0.0", Ok(false)),
+        ("vers:npm/1.0.0%2Bb", "1.0.0", Ok(true)),
+        ("vers:npm/>=1.0.0|>=2.0.0", "1.5.0", Ok(true)),
+        ("vers:npm/*", "1.2", Err(Refusal::BadVersion)),
+        (
+            "vers:npm/1.0.0|1.0.0+b",
+            "1.0.0",
+            Err(Refusal::BadVers(VersPart::Duplicate, 2)),
+        ),
+        (
+            "vers:nom/*",
+            "1.2",
+            Err(Refusal::BadVers(VersPart::Head, 0)),
+        ),
+        ("vers:rpm/", "", Err(Refusal::NotBuilt)),
+    ] {
+        assert_eq!(rt; has(alloc, text, version), answer);
+    }
+}
+
+#[test]
+fn lists_are_simplified(rt: HostRuntime) -> Result<(), Fail> {
+    let alloc = rt.alloc();
+    let text = canon(alloc, "vers:npm/>=2.0.0|1.0.0|>=1.5.0|!=3.0.0")?;
+    assert_eq!(rt; text.as_str(), "vers:npm/1.0.0|>=1.5.0|!=3.0.0");
+    let refused = canon(alloc, "vers:npm/1.0.0|*");
+    assert_eq!(rt;
+        refused.err(),
+        Some(Refusal::BadVers(VersPart::StarNotAlone, 0))
+    );
+    assert_eq!(rt; canon(alloc, "vers:cargo/*").err(), Some(Refusal::NotBuilt));
+    Ok(())
+}
+
+#[test]
+fn lists_that_are_not_read_are_not_translated(rt: HostRuntime) -> Result<(), Fail> {
+    let alloc = rt.alloc();
+    for (text, refusal) in [
+        ("npm/*", Refusal::BadVers(VersPart::Head, 0)),
+        ("vers:npm/1.0", Refusal::BadVers(VersPart::Version, 1)),
+        ("vers:npm/>", Refusal::BadVers(VersPart::Constraint, 1)),
+        ("vers:pypi/1.0", Refusal::NotBuilt),
+    ] {
+        let made = from_vers(alloc, Some(Domain::Releases), text);
+        assert_eq!(rt; made.err(), Some(refusal));
+    }
+    let made = from_vers(alloc, Some(Domain::Releases), "vers:npm/>=1.0.0|<2.0.0")?;
+    assert_eq!(rt; made.as_str(), ">=1.0.0 <2.0.0");
+    Ok(())
 }

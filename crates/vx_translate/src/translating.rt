@@ -1,28 +1,34 @@
-ghost use Rattle.std.specs.Prelude.{◌≡◌, IfOk, IfErr};
-ghost use Rattle.vx_translate.specs.ToVers.{IsTranslated, IsSameRange, IsRefused};
+ghost use Rattle.std.specs.Prelude.{◌≡◌, IfOk, IfErr, Err};
+ghost use Rattle.vx_translate.specs.ToVers.{IsTranslated, IsSameRange, IsRefused, HoldsNone};
 
 use crate::forward::translate;
 use crate::refusal::Refusal;
 use npm_range::NpmRange;
+use relation_ranges::DebRange;
 use std::alloc::Global;
 use vx_scheme::{Domain, SchemeName, Text};
 
 /// The VERS text of a range text of the named scheme, in a domain. `NotBuilt` comes exactly for the schemes other than
-/// npm; the other refusals are those of the first that stands in the text.
+/// npm and Debian's; the other refusals are those of the first that stands in the text.
 pub fn to_vers(alloc: Global, name: SchemeName, domain: Domain, text: &str) -> Result<Text, Refusal>
     ensures ok { IfOk result (IsTranslated name domain text.now) }
     ensures members { IfOk result (IsSameRange name domain text.now) }
     ensures err { IfErr result (IsRefused name domain text.now) }
+    // An empty range has no version of the domain.
+    ensures empty { result ≡ Err Refusal.Empty → HoldsNone name domain text.now }
 {
     match name {
         SchemeName::Npm => {
             let out = translate::<NpmRange>(alloc, domain, text)?;
             Ok(out)
         }
+        SchemeName::Deb => {
+            let out = translate::<DebRange>(alloc, domain, text)?;
+            Ok(out)
+        }
         SchemeName::Pypi
         | SchemeName::Maven
         | SchemeName::Gem
-        | SchemeName::Deb
         | SchemeName::Rpm
         | SchemeName::Nuget
         | SchemeName::Cargo => Err(Refusal::NotBuilt),

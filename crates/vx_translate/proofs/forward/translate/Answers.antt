@@ -1,5 +1,7 @@
 use Rattle.std.proofs.Common.{◌≡◌, [], subst, rules}
 use Rattle.vx_interval.specs.Joined.{IsJoined}
+use Rattle.vx_vers.specs.Again.{SpellsSame}
+use Rattle.vx_simplify.specs.Listed.{list_of}
 use Rattle.vx_translate.specs.Forward.{Translates}
 use Rattle.vx_translate.proofs.ForwardLaws.{holds_same, holds_none}
 use Rattle.vx_translate.proofs.forward.translate.Goals as goal
@@ -16,5 +18,9 @@ returns-in-Err-Empty-clause-empty g c = λ _.
 
 pub returns-clause-members : goal.returns-clause-members
 returns-clause-members g c =
-    let translated : Translates g.N.Scheme.order g.N.Scheme.name g.N.Scheme.normal (g.N.Native.Makes c.args.domain) c.args.text.now c.write.new.out = search rules in
-    holds_same g.met.N.Scheme.total g.met.N.Native.ranges c.args.domain g.N.Scheme.name g.N.Scheme.normal c.args.text.now c.write.new.out translated
+    let s = g.N.Scheme in
+    let translated : Translates s.order s.name s.normal (g.N.Native.Offers c.args.domain) (g.N.Native.Makes c.args.domain) c.args.text.now c.write.new.out = search rules in
+    let is : c.in-Ok-from_set.list ≡ list_of s.order translated.spans = search rules in
+    let spells : SpellsSame s.name s.order s.Spells s.IsWithin c.write.new.out c.in-Ok-from_set.list = search rules in
+    holds_same g.met.N.Scheme.total g.met.N.Native.ranges c.args.domain s.name s.Spells s.IsWithin c.args.text.now c.write.new.out translated.bounds translated.spans translated.made translated.joined translated.some
+    (subst (SpellsSame s.name s.order s.Spells s.IsWithin c.write.new.out) is spells)

@@ -1,0 +1,35 @@
+-- VERS texts that are read, and those that are refused: over the members of any scheme, and by the scheme that the head
+-- names.
+use Rattle.std.specs.Prelude.{◌≡◌, ◌≢◌, ◌⊎◌, ℕ, List}
+use Rattle.std.specs.declared.cmp.Ordering.{Ordering}
+use Rattle.vx_scheme.specs.declared.name.SchemeName.{SchemeName}
+use Rattle.vx_vers.specs.declared.constraints.Constraint.{Constraint}
+use Rattle.vx_vers.specs.declared.fault.VersFault.{VersFault}
+use Rattle.vx_vers.specs.Grammar.{SpellsList, EachWithin}
+use Rattle.vx_vers.specs.Heads.{HeadIs, NoHead}
+use Rattle.vx_vers.specs.Refusals.{Refuses}
+use Rattle.vx_translate.specs.Refusals.{refusal_of_vers}
+use Rattle.vx_translate.specs.declared.refusal.Refusal.{Refusal}
+use Rattle.vx_translate.specs.declared.refusal.Refusal.TheVariants as refusal_of
+use Rattle.vx_translate.specs.declared.refusal.VersPart.TheVariants.{Head}
+
+-- The text spells the list, each version within the limits of the scheme.
+pub record IsReadAs {V : Type 0} (name : SchemeName) (order : V → V → Ordering) (Spells : List ℕ → V → Type 0) (IsWithin : V → Type 0) (text : List ℕ) (list : List (Constraint V)) : Type 0 where
+  pub spelled : SpellsList name order Spells text list
+  pub within : EachWithin IsWithin list
+
+-- The text spells no list within the limits, and its first fault is called by this refusal.
+pub record IsBadVers {V : Type 0} (name : SchemeName) (order : V → V → Ordering) (Spells : List ℕ → V → Type 0) (IsWithin : V → Type 0) (text : List ℕ) (refusal : Refusal) : Type 0 where
+  pub fault : VersFault
+  pub first : Refuses name order Spells IsWithin text fault
+  pub called : refusal ≡ refusal_of_vers fault
+
+-- the head of the text names the scheme for which the fact holds
+abbrev pub OfHead : (SchemeName → Type 0) → List ℕ → Type 0
+OfHead Fact text = (name : SchemeName) × HeadIs text name × Fact name
+
+-- When each refusal comes: that of the head where it names no scheme, and else by the scheme that it names. Want of
+-- memory is free.
+abbrev pub RefusedByHead : (SchemeName → Refusal → Type 0) → List ℕ → Refusal → Type 0
+RefusedByHead Refused text refusal =
+    (refusal ≢ refusal_of.NoMemory) → ((NoHead text × (refusal ≡ refusal_of.BadVers Head 0)) ⊎ OfHead (λ name. Refused name refusal) text)

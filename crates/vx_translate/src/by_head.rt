@@ -1,0 +1,112 @@
+ghost use Rattle.std.specs.Prelude.{◌≡◌, IfOk, IfErr};
+ghost use Rattle.vx_vers.specs.Heads.{HeadIs, NoHead};
+ghost use Rattle.vx_translate.specs.Canon.{IsCanon, IsSameList, IsCanonRefused};
+ghost use Rattle.vx_translate.specs.FromVers.{IsFromVers, IsSameSet, IsFromVersRefused};
+ghost use Rattle.vx_translate.specs.Has.{IsHas, IsHasRefused};
+ghost use Rattle.vx_translate.specs.declared.refusal.Refusal.TheVariants as refusal_of;
+ghost use Rattle.vx_translate.specs.declared.refusal.VersPart.TheVariants.{Head};
+
+use crate::backward::translate_back;
+use crate::canonical::canonical;
+use crate::domains::default_domain;
+use crate::having::has_version;
+use crate::refusal::{Refusal, VersPart};
+use deb_scheme::Deb;
+use npm_range::NpmRange;
+use npm_scheme::Npm;
+use relation_ranges::DebRange;
+use std::alloc::Global;
+use vx_scheme::{Domain, SchemeName, Text};
+use vx_vers::head;
+
+/// The scheme that the head of a VERS text names.
+fn named(text: &str) -> Result<SchemeName, Refusal>
+    ensures ok { IfOk result (HeadIs text.now) }
+    ensures err { IfErr result (λ refusal. NoHead text.now × (refusal ≡ refusal_of.BadVers Head 0)) }
+{
+    match head(text) {
+        Some(name) => Ok(name),
+        None => Err(Refusal::BadVers(VersPart::Head, 0)),
+    }
+}
+
+/// The range text of a VERS text, in a domain: the default of the scheme that the head names where none is named.
+/// `BadVers` of the head comes first, exactly where it names no scheme. `NotBuilt` comes exactly for the schemes other
+/// than npm. The other refusals are those of the first that stands in the text: `DomainNotOffered`, the other
+/// `BadVers`, `NoNative`.
+pub fn from_vers(alloc: Global, domain: Option<Domain>, text: &str) -> Result<Text, Refusal>
+    ensures ok { IfOk result (IsFromVers domain text.now) }
+    ensures members { IfOk result (IsSameSet domain text.now) }
+    ensures err { IfErr result (IsFromVersRefused domain text.now) }
+{
+    let name = named(text)?;
+    let domain = domain.unwrap_or(default_domain(name));
+    match name {
+        SchemeName::Npm => {
+            let out = translate_back::<NpmRange>(alloc, domain, text)?;
+            Ok(out)
+        }
+        SchemeName::Deb => {
+            let out = translate_back::<DebRange>(alloc, domain, text)?;
+            Ok(out)
+        }
+        SchemeName::Pypi
+        | SchemeName::Maven
+        | SchemeName::Gem
+        | SchemeName::Rpm
+        | SchemeName::Nuget
+        | SchemeName::Cargo => Err(Refusal::NotBuilt),
+    }
+}
+
+/// The canonical text of a VERS text: its simplified list, printed. `BadVers` of the head comes first, exactly where it
+/// names no scheme. `NotBuilt` comes exactly for the schemes other than npm, and then the other `BadVers`.
+pub fn canon(alloc: Global, text: &str) -> Result<Text, Refusal>
+    ensures ok { IfOk result (IsCanon text.now) }
+    ensures same { IfOk result (IsSameList text.now) }
+    ensures err { IfErr result (IsCanonRefused text.now) }
+{
+    let name = named(text)?;
+    match name {
+        SchemeName::Npm => {
+            let out = canonical::<Npm>(alloc, text)?;
+            Ok(out)
+        }
+        SchemeName::Deb => {
+            let out = canonical::<Deb>(alloc, text)?;
+            Ok(out)
+        }
+        SchemeName::Pypi
+        | SchemeName::Maven
+        | SchemeName::Gem
+        | SchemeName::Rpm
+        | SchemeName::Nuget
+        | SchemeName::Cargo => Err(Refusal::NotBuilt),
+    }
+}
+
+/// Whether a VERS text holds a version of its scheme: what the list means there, as it is read. `BadVers` of the head
+/// comes first, exactly where it names no scheme. `NotBuilt` comes exactly for the schemes other than npm, then the
+/// other `BadVers`, then `BadVersion` where the scheme does not read the version.
+pub fn has(alloc: Global, text: &str, version: &str) -> Result<bool, Refusal>
+    ensures ok { IfOk result (IsHas text.now version.now) }
+    ensures err { IfErr result (IsHasRefused text.now version.now) }
+{
+    let name = named(text)?;
+    match name {
+        SchemeName::Npm => {
+            let answer = has_version::<Npm>(alloc, text, version)?;
+            Ok(answer)
+        }
+        SchemeName::Deb => {
+            let answer = has_version::<Deb>(alloc, text, version)?;
+            Ok(answer)
+        }
+        SchemeName::Pypi
+        | SchemeName::Maven
+        | SchemeName::Gem
+        | SchemeName::Rpm
+        | SchemeName::Nuget
+        | SchemeName::Cargo => Err(Refusal::NotBuilt),
+    }
+}
