@@ -1,70 +1,54 @@
--- An accepted line is a translation.
-use Rattle.std.proofs.Common.{◌≡◌, ℕ, List, [], ◌∷◌, Bool, true, false, Option, Some, None, refl, codes, bytes_eq, nat_lt}
-use Rattle.std.proofs.lemmas.Slice.Eq.{bytes_eq-Decides}
+-- An accepted line says what its command promises.
+use Rattle.std.proofs.Common.{◌≡◌, ℕ, List, [], ◌∷◌, Bool, true, false, Option, Some, None, refl, subst, codes, nat_lt}
 use Rattle.vx_scheme.specs.declared.name.SchemeName.{SchemeName}
-use Rattle.vx_scheme.specs.declared.name.SchemeName.TheVariants.{Npm, Pypi, Maven, Gem, Deb, Rpm, Nuget, Cargo}
 use Rattle.vx_scheme.specs.declared.domain.Domain.{Domain}
-use Rattle.npm_scheme.specs.Order.{order_total}
-use Rattle.npm_scheme.specs.Writing.{normal}
-use Rattle.npm_range.specs.Laws.{npm_ranges}
-use Rattle.vx_translate.specs.ToVers.{IsTranslated, IsSameRange}
-use Rattle.vx_translate.proofs.ForwardLaws.{holds_same}
-use Rattle.vx_cli.specs.Answers.{IsAnswer, AnswersLine, AnswersFields, AnswersCommand, AnswersScheme, AnswersInDomain, scheme_named, domain_named}
+use Rattle.vx_cli.specs.Answers.{IsAnswer, AnswersLine, AnswersFields, AnswersScheme, AnswersInDomain, AnswersBack, AnswersCanon, AnswersHas, AnswersPurl, AnswersSame, scheme_named, domain_named}
 use Rattle.vx_cli.specs.Fields.{joined_length}
-use Rattle.vx_cli.specs.Runs.{AppendsAnswer, AppendsTranslation}
-use Rattle.vx_cli.specs.Translations.{IsTranslation}
+use Rattle.vx_cli.specs.Runs.{AppendsAnswer, AppendsSuch}
+use Rattle.vx_cli.specs.Translations.{IsTranslation, IsTranslationBack, IsSimplification, IsMembership, IsCanonicalPurl, IsComparison}
 
--- a translated range is held by its text
-same_range : (name : SchemeName) (domain : Domain) (range text : List ℕ) → IsTranslated name domain range text → IsSameRange name domain range text
-same_range Npm domain range text t = holds_same order_total npm_ranges domain Npm normal range text t
-same_range Pypi domain range text t = absurd t
-same_range Maven domain range text t = absurd t
-same_range Gem domain range text t = absurd t
-same_range Deb domain range text t = absurd t
-same_range Rpm domain range text t = absurd t
-same_range Nuget domain range text t = absurd t
-same_range Cargo domain range text t = absurd t
-
-module _ (command scheme domain range line : List ℕ) (is_command : bytes_eq command (codes "to-vers") ≡ true) where
-  of_domain : (name : SchemeName) → scheme_named scheme ≡ Some name → (found : Option Domain) → domain_named name domain ≡ found → AnswersInDomain name found range true line → IsTranslation (command ∷ scheme ∷ domain ∷ range ∷ []) line
+module _ (scheme domain range line : List ℕ) where
+  of_domain : (name : SchemeName) → scheme_named scheme ≡ Some name → (found : Option (Option Domain)) → domain_named domain ≡ found → AnswersInDomain name found range true line → IsTranslation scheme domain range line
   of_domain name is None none h = cc h.0
-  of_domain name is (Some meant) some h =
-      let word = (bytes_eq-Decides command (codes "to-vers")).0 is_command in
-      record {
-        scheme = scheme;
-        domain = domain;
-        range = range;
-        text = h.0;
-        name = name;
-        meant = meant;
-        words = cc word;
-        is_scheme = is;
-        is_domain = some;
-        printed = h.2;
-        same = same_range name meant range h.0 h.1;
-      }
+  of_domain name is (Some choice) some h = record { text = h.0; name = name; choice = choice; is_scheme = is; is_domain = some; printed = h.2; same = h.1.1 }
 
-  of_scheme : (found : Option SchemeName) → scheme_named scheme ≡ found → AnswersScheme found domain range true line → IsTranslation (command ∷ scheme ∷ domain ∷ range ∷ []) line
+  of_scheme : (found : Option SchemeName) → scheme_named scheme ≡ found → AnswersScheme found domain range true line → IsTranslation scheme domain range line
   of_scheme None none h = cc h.0
-  of_scheme (Some name) some h = of_domain name some (domain_named name domain) refl h
+  of_scheme (Some name) some h = of_domain name some (domain_named domain) refl h
 
-of_command : (command scheme domain range line : List ℕ) (is : Bool) → bytes_eq command (codes "to-vers") ≡ is → AnswersCommand is scheme domain range true line → IsTranslation (command ∷ scheme ∷ domain ∷ range ∷ []) line
-of_command command scheme domain range line true e h = of_scheme command scheme domain range line e (scheme_named scheme) refl h
-of_command command scheme domain range line false e h = cc h.0
+  pub of_to_vers : AnswersFields (codes "to-vers" ∷ scheme ∷ domain ∷ range ∷ []) true line → IsTranslation scheme domain range line
+  of_to_vers h = of_scheme (scheme_named scheme) refl h
 
-of_fields : (fields : List (List ℕ)) (line : List ℕ) → AnswersFields fields true line → IsTranslation fields line
-of_fields [] line h = cc h.0
-of_fields (command ∷ []) line h = cc h.0
-of_fields (command ∷ scheme ∷ []) line h = cc h.0
-of_fields (command ∷ scheme ∷ domain ∷ []) line h = cc h.0
-of_fields (command ∷ scheme ∷ domain ∷ range ∷ []) line h = of_command command scheme domain range line (bytes_eq command (codes "to-vers")) refl h
-of_fields (command ∷ scheme ∷ domain ∷ range ∷ next ∷ fields) line h = cc h.0
+module _ (domain text line : List ℕ) where
+  of_back : (found : Option (Option Domain)) → domain_named domain ≡ found → AnswersBack found text true line → IsTranslationBack domain text line
+  of_back None none h = cc h.0
+  of_back (Some choice) some h = record { range = h.0; choice = choice; is_domain = some; printed = h.2; same = h.1.1 }
 
-of_line : (long : Bool) (fields : List (List ℕ)) (line : List ℕ) → AnswersLine long fields true line → IsTranslation fields line
+  pub of_from_vers : AnswersFields (codes "from-vers" ∷ domain ∷ text ∷ []) true line → IsTranslationBack domain text line
+  of_from_vers h = of_back (domain_named domain) refl h
+
+pub of_canon : (text line : List ℕ) → AnswersFields (codes "canon" ∷ text ∷ []) true line → IsSimplification text line
+of_canon text line h = record { canonical = h.0; printed = h.2; same = h.1.1 }
+
+pub of_has : (text version line : List ℕ) → AnswersFields (codes "has" ∷ text ∷ version ∷ []) true line → IsMembership text version line
+of_has text version line (found, (held, is, shown), printed) = record { held = held; printed = rw shown at printed; is = is }
+
+pub of_purl : (text line : List ℕ) → AnswersFields (codes "purl" ∷ text ∷ []) true line → IsCanonicalPurl text line
+of_purl text line h = record { canonical = h.0; printed = h.2; is = h.1 }
+
+pub of_same : (a b line : List ℕ) → AnswersFields (codes "same" ∷ a ∷ b ∷ []) true line → IsComparison a b line
+of_same a b line (found, (told, is, shown), printed) = record { told = told; printed = rw shown at printed; is = is }
+
+-- an accepted line is not too long
+of_line : (long : Bool) (fields : List (List ℕ)) (line : List ℕ) → AnswersLine long fields true line → AnswersFields fields true line
 of_line true fields line h = cc h.0
-of_line false fields line h = of_fields fields line h
+of_line false fields line h = h
 
--- what is written for an accepted line is a translation
-pub appends_translation : (fields : List (List ℕ)) (old new : Option (List ℕ)) → AppendsAnswer fields true old new → AppendsTranslation fields old new
+-- what is written for an accepted line is such a line
+pub appends_such : (fields : List (List ℕ)) (Is : List ℕ → Type 0) → ((line : List ℕ) → AnswersFields fields true line → Is line) → (words : List (List ℕ)) → words ≡ fields → (old new : Option (List ℕ)) → AppendsAnswer words true old new → AppendsSuch Is old new
 unfolding IsAnswer
-appends_translation fields old new a = record { line = a.text; translation = of_line (nat_lt 65536 (joined_length fields)) fields a.text a.answered; grown = a.grown }
+appends_such fields Is says words e old new a = record {
+  line = a.text;
+  is = says a.text (subst (λ f. AnswersFields f true a.text) e (of_line (nat_lt 65536 (joined_length words)) words a.text a.answered));
+  grown = a.grown;
+}

@@ -1,5 +1,5 @@
 -- What a line is answered, by its fields.
-use Rattle.std.specs.Prelude.{◌≡◌, ◌≢◌, ℕ, List, [], ◌∷◌, ◌++◌, Bool, true, false, Option, Some, None, if◌then◌else◌, nat_lt, bytes_eq, codes}
+use Rattle.std.specs.Prelude.{◌≡◌, ◌≢◌, ℕ, List, [], ◌∷◌, ◌++◌, Bool, true, false, Option, Some, None, Result, Ok, Err, if◌then◌else◌, nat_lt, bytes_eq, codes}
 use Rattle.vx_spec.specs.Numerals.{numeral_text}
 use Rattle.vx_scheme.specs.declared.name.SchemeName.{SchemeName}
 use Rattle.vx_scheme.specs.declared.name.SchemeName.TheVariants.{Npm, Pypi, Maven, Gem, Deb, Rpm, Nuget, Cargo}
@@ -13,8 +13,17 @@ use Rattle.vx_translate.specs.declared.refusal.VersPart.{VersPart}
 use Rattle.vx_translate.specs.declared.refusal.VersPart.TheVariants as part_of
 use Rattle.vx_translate.specs.declared.refusal.BackKind.{BackKind}
 use Rattle.vx_translate.specs.declared.refusal.BackKind.TheVariants as kind_of
-use Rattle.vx_translate.specs.Domains.{usual_of}
-use Rattle.vx_translate.specs.ToVers.{IsTranslated, IsRefused}
+use Rattle.purl_core.specs.Reading.{IsRefused as IsPurlRefused}
+use Rattle.purl_core.specs.declared.fault.PurlFault.{PurlFault}
+use Rattle.purl_core.specs.declared.fault.PurlFault.TheVariants as purl_fault_of
+use Rattle.purl_types.specs.Canonical.{IsCanonical, IsComparedAs}
+use Rattle.vx_translate.specs.Canon.{IsCanon, IsSameList, IsCanonRefused}
+use Rattle.vx_translate.specs.FromVers.{meant, IsFromVers, IsSameSet, IsFromVersRefused}
+use Rattle.vx_translate.specs.Has.{IsHas, IsHasRefused}
+use Rattle.vx_translate.specs.ToVers.{IsTranslated, IsSameRange, IsRefused}
+use Rattle.vx_cli.specs.declared.command.Command.{Command}
+use Rattle.vx_cli.specs.declared.command.Command.TheVariants.{ToVers, FromVers, Canon, Has, Purl, Same}
+use Rattle.vx_cli.specs.Commands.{command_named}
 use Rattle.vx_cli.specs.Fields.{joined_length}
 
 -- the scheme of this name
@@ -30,12 +39,12 @@ scheme_named text =
     else if bytes_eq text (codes "cargo") then Some Cargo
     else None
 
--- the domain that the text names; `-` is the scheme's default
-abbrev pub domain_named : SchemeName → List ℕ → Option Domain
-domain_named name text =
-    if bytes_eq text (codes "all") then Some All
-    else if bytes_eq text (codes "releases") then Some Releases
-    else if bytes_eq text (codes "-") then Some (usual_of name)
+-- the domain that the text names, or none for `-`, which means the scheme's default
+abbrev pub domain_named : List ℕ → Option (Option Domain)
+domain_named text =
+    if bytes_eq text (codes "all") then Some (Some All)
+    else if bytes_eq text (codes "releases") then Some (Some Releases)
+    else if bytes_eq text (codes "-") then Some None
     else None
 
 abbrev pub end_kind_text : EndKind → List ℕ
@@ -73,39 +82,93 @@ refusal_line (refusal_of.NoNative kind k) = (codes "no\t13 NoNative\t" ++ back_k
 refusal_line refusal_of.NotBuilt = codes "no\t0 NotBuilt\t-"
 refusal_line refusal_of.NoMemory = []
 
+-- the same for a package URL; the place is 0 where the whole text is meant
+abbrev pub purl_line : PurlFault → List ℕ
+purl_line purl_fault_of.Scheme = codes "no\t14 BadPurl\tScheme 0"
+purl_line purl_fault_of.BadType = codes "no\t14 BadPurl\tType 0"
+purl_line purl_fault_of.Name = codes "no\t14 BadPurl\tName 0"
+purl_line (purl_fault_of.Escape at) = codes "no\t14 BadPurl\tEscape " ++ numeral_text at
+purl_line (purl_fault_of.NotText at) = codes "no\t14 BadPurl\tNotText " ++ numeral_text at
+purl_line (purl_fault_of.Qualifier at) = codes "no\t14 BadPurl\tQualifier " ++ numeral_text at
+purl_line (purl_fault_of.DuplicateKey at) = codes "no\t14 BadPurl\tDuplicateKey " ++ numeral_text at
+purl_line purl_fault_of.NoMemory = []
+
 -- a line that is refused so
 abbrev pub IsLine : List ℕ → Bool → List ℕ → Type 0
 IsLine refused ok line = (ok ≡ false) × (line ≡ refused)
 
--- the answer to a translation: `ok`, a tab and the VERS text, or its refusal
-abbrev pub AnswersRange : SchemeName → Domain → List ℕ → Bool → List ℕ → Type 0
-AnswersRange name domain range true line = (text : List ℕ) × IsTranslated name domain range text × (line ≡ codes "ok\t" ++ text)
-AnswersRange name domain range false line = (refusal : Refusal) × (refusal ≢ refusal_of.NoMemory) × IsRefused name domain range refusal × (line ≡ refusal_line refusal)
-
-abbrev pub AnswersInDomain : SchemeName → Option Domain → List ℕ → Bool → List ℕ → Type 0
-AnswersInDomain name None range = IsLine (codes "no\t5 BadDomain\t-")
-AnswersInDomain name (Some domain) range = AnswersRange name domain range
-
-abbrev pub AnswersScheme : Option SchemeName → List ℕ → List ℕ → Bool → List ℕ → Type 0
-AnswersScheme None domain range = IsLine (codes "no\t4 BadScheme\t-")
-AnswersScheme (Some name) domain range = AnswersInDomain name (domain_named name domain) range
-
 abbrev pub IsNotBuilt : Bool → List ℕ → Type 0
 IsNotBuilt = IsLine (codes "no\t0 NotBuilt\t-")
 
--- a command that is built, or not
-abbrev pub AnswersCommand : Bool → List ℕ → List ℕ → List ℕ → Bool → List ℕ → Type 0
-AnswersCommand true scheme domain range = AnswersScheme (scheme_named scheme) domain range
-AnswersCommand false scheme domain range = IsNotBuilt
+-- an accepted line: `ok`, a tab and a text of which this holds; or a line that is refused so
+abbrev pub AnswersText : (List ℕ → Type 0) → (List ℕ → Type 0) → Bool → List ℕ → Type 0
+AnswersText IsText IsRefusal true line = (text : List ℕ) × IsText text × (line ≡ codes "ok\t" ++ text)
+AnswersText IsText IsRefusal false line = IsRefusal line
 
--- the answer to a line that is not too long: `to-vers`, a scheme, a domain and a range; no other command is built
+-- the line of a refusal that comes here
+abbrev pub IsRefusalLine : (Refusal → Type 0) → List ℕ → Type 0
+IsRefusalLine Refuses line = (refusal : Refusal) × (refusal ≢ refusal_of.NoMemory) × Refuses refusal × (line ≡ refusal_line refusal)
+
+-- the same for a package URL
+abbrev pub IsPurlRefusalLine : (PurlFault → Type 0) → List ℕ → Type 0
+IsPurlRefusalLine Refuses line = (fault : PurlFault) × (fault ≢ purl_fault_of.NoMemory) × Refuses fault × (line ≡ purl_line fault)
+
+-- `yes` or `no`
+abbrev pub decided_text : Bool → List ℕ
+decided_text true = codes "yes"
+decided_text false = codes "no"
+
+-- the text of a decision of which this holds
+abbrev pub IsDecided : (Bool → Type 0) → List ℕ → Type 0
+IsDecided Is text = (decision : Bool) × Is decision × (text ≡ decided_text decision)
+
+-- `to-vers`: the VERS text, which holds the same versions, or the refusal
+abbrev pub AnswersRange : SchemeName → Domain → List ℕ → Bool → List ℕ → Type 0
+AnswersRange name domain range = AnswersText (λ text. IsTranslated name domain range text × IsSameRange name domain range text) (IsRefusalLine (IsRefused name domain range))
+
+abbrev pub AnswersInDomain : SchemeName → Option (Option Domain) → List ℕ → Bool → List ℕ → Type 0
+AnswersInDomain name None range = IsLine (codes "no\t5 BadDomain\t-")
+AnswersInDomain name (Some domain) range = AnswersRange name (meant domain name) range
+
+abbrev pub AnswersScheme : Option SchemeName → List ℕ → List ℕ → Bool → List ℕ → Type 0
+AnswersScheme None domain range = IsLine (codes "no\t4 BadScheme\t-")
+AnswersScheme (Some name) domain range = AnswersInDomain name (domain_named domain) range
+
+-- `from-vers`: the range text, which holds the same versions, or the refusal
+abbrev pub AnswersBack : Option (Option Domain) → List ℕ → Bool → List ℕ → Type 0
+AnswersBack None text = IsLine (codes "no\t5 BadDomain\t-")
+AnswersBack (Some domain) text = AnswersText (λ range. IsFromVers domain text range × IsSameSet domain text range) (IsRefusalLine (IsFromVersRefused domain text))
+
+-- `canon`: the canonical text, which means the same, or the refusal
+abbrev pub AnswersCanon : List ℕ → Bool → List ℕ → Type 0
+AnswersCanon text = AnswersText (λ canonical. IsCanon text canonical × IsSameList text canonical) (IsRefusalLine (IsCanonRefused text))
+
+-- `has`: whether the VERS text holds the version, or the refusal
+abbrev pub AnswersHas : List ℕ → List ℕ → Bool → List ℕ → Type 0
+AnswersHas text version = AnswersText (IsDecided (IsHas text version)) (IsRefusalLine (IsHasRefused text version))
+
+-- `purl`: the canonical text, or the refusal
+abbrev pub AnswersPurl : List ℕ → Bool → List ℕ → Type 0
+AnswersPurl text = AnswersText (IsCanonical text) (IsPurlRefusalLine (IsPurlRefused text))
+
+-- `same`: whether what the texts spell means the same package, or the refusal of the first, or else of the second
+abbrev pub AnswersSame : List ℕ → List ℕ → Bool → List ℕ → Type 0
+AnswersSame a b = AnswersText (IsDecided (λ told. IsComparedAs a b (Ok told))) (IsPurlRefusalLine (λ fault. IsComparedAs a b (Err fault)))
+
+-- the answer to a command with the fields behind it
+abbrev pub AnswersCommand : Option Command → List (List ℕ) → Bool → List ℕ → Type 0
+AnswersCommand (Some ToVers) (scheme ∷ domain ∷ range ∷ []) = AnswersScheme (scheme_named scheme) domain range
+AnswersCommand (Some FromVers) (domain ∷ text ∷ []) = AnswersBack (domain_named domain) text
+AnswersCommand (Some Canon) (text ∷ []) = AnswersCanon text
+AnswersCommand (Some Has) (text ∷ version ∷ []) = AnswersHas text version
+AnswersCommand (Some Purl) (text ∷ []) = AnswersPurl text
+AnswersCommand (Some Same) (a ∷ b ∷ []) = AnswersSame a b
+AnswersCommand _ _ = IsNotBuilt
+
+-- the answer to a line that is not too long; what is no command so far, or has another number of fields, is not built
 abbrev pub AnswersFields : List (List ℕ) → Bool → List ℕ → Type 0
 AnswersFields [] = IsNotBuilt
-AnswersFields (command ∷ []) = IsNotBuilt
-AnswersFields (command ∷ scheme ∷ []) = IsNotBuilt
-AnswersFields (command ∷ scheme ∷ domain ∷ []) = IsNotBuilt
-AnswersFields (command ∷ scheme ∷ domain ∷ range ∷ []) = AnswersCommand (bytes_eq command (codes "to-vers")) scheme domain range
-AnswersFields (command ∷ scheme ∷ domain ∷ range ∷ next ∷ fields) = IsNotBuilt
+AnswersFields (command ∷ fields) = AnswersCommand (command_named command) fields
 
 abbrev pub AnswersLine : Bool → List (List ℕ) → Bool → List ℕ → Type 0
 AnswersLine true fields = IsLine (codes "no\t1 LineTooLong\t-")

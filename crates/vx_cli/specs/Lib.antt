@@ -2,6 +2,7 @@ pub mod Outside
 pub mod Store
 pub mod Fields
 pub mod Usage
+pub mod Commands
 pub mod Answers
 pub mod Translations
 pub mod Statuses

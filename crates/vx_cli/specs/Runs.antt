@@ -2,7 +2,6 @@
 use Rattle.std.specs.Prelude.{ℕ, List, [], ◌∷◌, ◌++◌, Bool, Option, Result, Ok, Err, if◌then◌else◌}
 use Rattle.std.specs.Io.KnownBytes.{Appends}
 use Rattle.vx_cli.specs.Answers.{IsAnswer}
-use Rattle.vx_cli.specs.Translations.{IsTranslation}
 use Rattle.vx_cli.specs.Outside.{AppendsFront}
 use Rattle.vx_cli.specs.declared.status.Status.{Status}
 use Rattle.vx_cli.specs.declared.status.Status.TheVariants as status_of
@@ -36,8 +35,8 @@ pub record AppendsAnswerFront (fields : List (List ℕ)) (old new : Option (List
   pub answered : IsAnswer fields ok text
   pub grown : AppendsFront old new (line_of text)
 
--- known bytes grow by a line `ok` which is a translation of the fields, and nothing else
-pub record AppendsTranslation (fields : List (List ℕ)) (old new : Option (List ℕ)) : Type 0 where
+-- known bytes grow by a line of which this holds, and nothing else
+pub record AppendsSuch (Is : List ℕ → Type 0) (old new : Option (List ℕ)) : Type 0 where
   pub line : List ℕ
-  pub translation : IsTranslation fields line
+  pub is : Is line
   pub grown : Appends old new (line_of line)

@@ -1,21 +1,57 @@
--- What an accepted line says of the range that it translates.
-use Rattle.std.specs.Prelude.{◌≡◌, ℕ, List, [], ◌∷◌, ◌++◌, Some, codes}
+-- What an accepted line says.
+use Rattle.std.specs.Prelude.{◌≡◌, ℕ, List, ◌++◌, Bool, Option, Some, Ok, codes}
 use Rattle.vx_scheme.specs.declared.name.SchemeName.{SchemeName}
 use Rattle.vx_scheme.specs.declared.domain.Domain.{Domain}
+use Rattle.purl_types.specs.Canonical.{IsCanonical, IsComparedAs}
+use Rattle.vx_translate.specs.Canon.{IsSameList}
+use Rattle.vx_translate.specs.FromVers.{meant, IsSameSet}
+use Rattle.vx_translate.specs.Has.{IsHas}
 use Rattle.vx_translate.specs.ToVers.{IsSameRange}
-use Rattle.vx_cli.specs.Answers.{scheme_named, domain_named}
+use Rattle.vx_cli.specs.Answers.{scheme_named, domain_named, decided_text}
 
--- The fields are `to-vers`, a scheme, a domain and a range, and the line is `ok`, a tab and a printed text, which holds
--- exactly the versions of the domain that are in the range.
-pub record IsTranslation (fields : List (List ℕ)) (line : List ℕ) : Type 0 where
-  pub scheme : List ℕ
-  pub domain : List ℕ
-  pub range : List ℕ
+-- The line behind `to-vers`, a scheme, a domain and a range is `ok`, a tab and a printed text, which holds exactly the
+-- versions of the domain that are in the range.
+pub record IsTranslation (scheme domain range line : List ℕ) : Type 0 where
   pub text : List ℕ
   pub name : SchemeName
-  pub meant : Domain
-  pub words : fields ≡ codes "to-vers" ∷ scheme ∷ domain ∷ range ∷ []
+  pub choice : Option Domain
   pub is_scheme : scheme_named scheme ≡ Some name
-  pub is_domain : domain_named name domain ≡ Some meant
+  pub is_domain : domain_named domain ≡ Some choice
   pub printed : line ≡ codes "ok\t" ++ text
-  pub same : IsSameRange name meant range text
+  pub same : IsSameRange name (meant choice name) range text
+
+-- The line behind `from-vers`, a domain and a VERS text is `ok`, a tab and a range text, in which are exactly the
+-- versions of the domain that the list, as it is read, holds.
+pub record IsTranslationBack (domain text line : List ℕ) : Type 0 where
+  pub range : List ℕ
+  pub choice : Option Domain
+  pub is_domain : domain_named domain ≡ Some choice
+  pub printed : line ≡ codes "ok\t" ++ range
+  pub same : IsSameSet choice text range
+
+-- The line behind `canon` and a VERS text is `ok`, a tab and the printed text of a valid list, which holds exactly the
+-- versions that the list, as it is read, holds, and simplifies no further.
+pub record IsSimplification (text line : List ℕ) : Type 0 where
+  pub canonical : List ℕ
+  pub printed : line ≡ codes "ok\t" ++ canonical
+  pub same : IsSameList text canonical
+
+-- The line behind `has`, a VERS text and a version is `ok`, a tab and `yes` where the list, as it is read, holds the
+-- version, and `no` where it does not.
+pub record IsMembership (text version line : List ℕ) : Type 0 where
+  pub held : Bool
+  pub printed : line ≡ codes "ok\t" ++ decided_text held
+  pub is : IsHas text version held
+
+-- The line behind `purl` and a package URL is `ok`, a tab and the canonical text of what the text spells.
+pub record IsCanonicalPurl (text line : List ℕ) : Type 0 where
+  pub canonical : List ℕ
+  pub printed : line ≡ codes "ok\t" ++ canonical
+  pub is : IsCanonical text canonical
+
+-- The line behind `same` and two package URLs is `ok`, a tab and `yes` where what they spell means the same package,
+-- and `no` where it does not.
+pub record IsComparison (a b line : List ℕ) : Type 0 where
+  pub told : Bool
+  pub printed : line ≡ codes "ok\t" ++ decided_text told
+  pub is : IsComparedAs a b (Ok told)

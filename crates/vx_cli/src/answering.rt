@@ -1,97 +1,103 @@
-ghost use Rattle.std.specs.Prelude.{◌≡◌, ◌++◌, ◌∷◌, [], true, nat_lt, IfOk, codes, bytes_eq};
-ghost use Rattle.vx_cli.specs.Answers.{IsAnswer, AnswersRange, AnswersScheme, AnswersFields, scheme_named};
+ghost use Rattle.std.specs.Prelude.{◌≡◌, ◌∷◌, [], IfOk, Some, nat_lt};
+ghost use Rattle.vx_cli.specs.Answers.{AnswersCommand, AnswersFields, IsAnswer, IsNotBuilt};
 ghost use Rattle.vx_cli.specs.Fields.{joined_length};
 
+use crate::command::{Command, command_named};
 use crate::fields::{Fields, joined_length};
-use crate::names::{domain_named, scheme_named};
-use crate::refusing::{refused, refused_by};
+use crate::purl_answers::{answer_purl, answer_same};
+use crate::refusing::refused;
 use crate::reply::Answer;
+use crate::vers_answers::{answer_canon, answer_from_vers, answer_has, answer_to_vers};
 use std::alloc::Global;
-use vx_scheme::{Domain, NoMemory, SchemeName, Text};
-use vx_translate::{Refusal, to_vers};
+use vx_scheme::{NoMemory, Text};
 
 /// The most bytes that a line may have.
 pub const MOST_BYTES: usize = 65_536;
 
-// The answer that a line is accepted, with this text.
-fn accepted(alloc: Global, found: &Text) -> Result<Answer, NoMemory>
-    ensures { IfOk result (λ a. (a.ok ≡ true) × (a.text ≡ codes "ok\t" ++ found.now)) }
+// The answer to what is no command so far.
+fn not_built(alloc: Global) -> Result<Answer, NoMemory>
+    ensures { IfOk result (λ a. IsNotBuilt a.ok a.text) }
 {
-    let mut text = Text::new(alloc);
-    text.push_str("ok\t")?;
-    text.push_str(found.as_str())?;
-    Ok(Answer { ok: true, text })
+    let answer = refused(alloc, "no\t0 NotBuilt\t-")?;
+    Ok(answer)
 }
 
-// The answer to a translation in a domain.
-fn answer_range(
-    alloc: Global,
-    name: SchemeName,
-    domain: Domain,
-    range: &str,
-) -> Result<Answer, NoMemory>
-    ensures { IfOk result (λ a. AnswersRange name domain range.now a.ok a.text) }
+// The answer to a command with one field behind it.
+fn answer_one(alloc: Global, command: Command, field: &str) -> Result<Answer, NoMemory>
+    ensures { IfOk result (λ a. AnswersCommand (Some command) (field.now ∷ []) a.ok a.text) }
 {
-    match to_vers(alloc, name, domain, range) {
-        Ok(text) => {
-            let answer = accepted(alloc, &text)?;
-            Ok(answer)
-        }
-        Err(refusal) => {
-            if refusal == Refusal::NoMemory {
-                return Err(NoMemory);
-            }
-            let answer = refused_by(alloc, refusal)?;
-            Ok(answer)
+    match command {
+        Command::Canon => answer_canon(alloc, field),
+        Command::Purl => answer_purl(alloc, field),
+        Command::ToVers | Command::FromVers | Command::Has | Command::Same => not_built(alloc),
+    }
+}
+
+// The answer to a command with two fields behind it.
+fn answer_two(
+    alloc: Global,
+    command: Command,
+    first: &str,
+    second: &str,
+) -> Result<Answer, NoMemory>
+    ensures { IfOk result (λ a. AnswersCommand (Some command) (first.now ∷ second.now ∷ []) a.ok a.text) }
+{
+    match command {
+        Command::FromVers => answer_from_vers(alloc, first, second),
+        Command::Has => answer_has(alloc, first, second),
+        Command::Same => answer_same(alloc, first, second),
+        Command::ToVers | Command::Canon | Command::Purl => not_built(alloc),
+    }
+}
+
+// The answer to a command with three fields behind it.
+fn answer_three(
+    alloc: Global,
+    command: Command,
+    first: &str,
+    second: &str,
+    third: &str,
+) -> Result<Answer, NoMemory>
+    ensures { IfOk result (λ a. AnswersCommand (Some command) (first.now ∷ second.now ∷ third.now ∷ []) a.ok a.text) }
+{
+    match command {
+        Command::ToVers => answer_to_vers(alloc, first, second, third),
+        Command::FromVers | Command::Canon | Command::Has | Command::Purl | Command::Same => {
+            not_built(alloc)
         }
     }
 }
 
-// The answer to a translation, by the fields behind the command.
-fn answer_to_vers(
-    alloc: Global,
-    scheme: &str,
-    domain: &str,
-    range: &str,
-) -> Result<Answer, NoMemory>
-    ensures { IfOk result (λ a. AnswersScheme (scheme_named scheme.now) domain.now range.now a.ok a.text) }
+// The answer to a command with the fields behind it.
+fn answer_command(alloc: Global, command: Command, fields: &[Text]) -> Result<Answer, NoMemory>
+    ensures { IfOk result (λ a. AnswersCommand (Some command) fields.now a.ok a.text) }
 {
-    let Some(name) = scheme_named(scheme) else {
-        let answer = refused(alloc, "no\t4 BadScheme\t-")?;
-        return Ok(answer);
-    };
-    let Some(domain) = domain_named(name, domain) else {
-        let answer = refused(alloc, "no\t5 BadDomain\t-")?;
-        return Ok(answer);
-    };
-    let answer = answer_range(alloc, name, domain, range)?;
-    Ok(answer)
+    match fields {
+        [field] => answer_one(alloc, command, field.as_str()),
+        [first, second] => answer_two(alloc, command, first.as_str(), second.as_str()),
+        [first, second, third] => answer_three(
+            alloc,
+            command,
+            first.as_str(),
+            second.as_str(),
+            third.as_str(),
+        ),
+        _ => not_built(alloc),
+    }
 }
 
 // The answer to a line that is not too long.
 fn answer_fields(alloc: Global, fields: &[Text]) -> Result<Answer, NoMemory>
     ensures { IfOk result (λ a. AnswersFields fields.now a.ok a.text) }
 {
-    match fields {
-        [command, scheme, domain, range] => {
-            if command.as_str() == "to-vers" {
-                let answer = answer_to_vers(
-                    alloc,
-                    scheme.as_str(),
-                    domain.as_str(),
-                    range.as_str(),
-                )?;
-                Ok(answer)
-            } else {
-                let answer = refused(alloc, "no\t0 NotBuilt\t-")?;
-                Ok(answer)
-            }
-        }
-        _ => {
-            let answer = refused(alloc, "no\t0 NotBuilt\t-")?;
-            Ok(answer)
-        }
-    }
+    let [name, behind @ ..] = fields else {
+        return not_built(alloc);
+    };
+    let Some(command) = command_named(name.as_str()) else {
+        return not_built(alloc);
+    };
+    let answer = answer_command(alloc, command, behind)?;
+    Ok(answer)
 }
 
 /// The answer to the line of these fields.

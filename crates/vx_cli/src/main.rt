@@ -2,11 +2,13 @@
 #![tactic(auto)]
 
 mod answering;
+mod command;
 mod fields;
 mod memory_sink;
 mod names;
 mod outside;
 mod plain_source;
+mod purl_answers;
 mod refusing;
 mod reply;
 mod running;
@@ -15,6 +17,7 @@ mod status;
 #[cfg(test)]
 mod tests;
 mod usage;
+mod vers_answers;
 mod writing;
 
 ghost use Rattle.std.specs.Prelude.{◌≡◌, ◌≢◌, ◌↔◌, ◌⊎◌, IfErr};

@@ -2,7 +2,7 @@ ghost use Rattle.std.specs.Prelude.{◌≡◌};
 ghost use Rattle.vx_cli.specs.Answers.{scheme_named, domain_named, end_kind_text, part_text, back_kind_text};
 
 use vx_scheme::{Domain, EndKind, SchemeName};
-use vx_translate::{BackKind, VersPart, default_domain};
+use vx_translate::{BackKind, VersPart};
 
 /// The scheme of this name.
 pub fn scheme_named(text: &str) -> Option<SchemeName>
@@ -21,14 +21,14 @@ pub fn scheme_named(text: &str) -> Option<SchemeName>
     }
 }
 
-/// The domain that the text names; `-` is the scheme's default.
-pub fn domain_named(name: SchemeName, text: &str) -> Option<Domain>
-    ensures { result ≡ domain_named name text.now }
+/// The domain that the text names, or none for `-`, which means the scheme's default.
+pub fn domain_named(text: &str) -> Option<Option<Domain>>
+    ensures { result ≡ domain_named text.now }
 {
     match text {
-        "all" => Some(Domain::All),
-        "releases" => Some(Domain::Releases),
-        "-" => Some(default_domain(name)),
+        "all" => Some(Some(Domain::All)),
+        "releases" => Some(Some(Domain::Releases)),
+        "-" => Some(None),
         _ => None,
     }
 }

@@ -1,9 +1,12 @@
-ghost use Rattle.std.specs.Prelude.{◌≡◌, ◌++◌, false, IfOk, codes};
+ghost use Rattle.std.specs.Prelude.{◌≡◌, ◌≢◌, ◌++◌, false, IfOk, codes};
 ghost use Rattle.vx_spec.specs.Numerals.{numeral_text};
-ghost use Rattle.vx_cli.specs.Answers.{refusal_line};
+ghost use Rattle.vx_translate.specs.declared.refusal.Refusal.TheVariants as refusal_of;
+ghost use Rattle.purl_core.specs.declared.fault.PurlFault.TheVariants as purl_fault_of;
+ghost use Rattle.vx_cli.specs.Answers.{refusal_line, purl_line};
 
 use crate::names::{back_kind_text, end_kind_text, part_text};
 use crate::reply::Answer;
+use purl_core::PurlFault;
 use std::alloc::Global;
 use vx_scheme::{NoMemory, Text};
 use vx_translate::Refusal;
@@ -49,7 +52,8 @@ fn plain(alloc: Global, line: &str) -> Result<Text, NoMemory>
 
 // The line of a refusal. Want of memory has none.
 fn line_of(alloc: Global, refusal: Refusal) -> Result<Text, NoMemory>
-    ensures { IfOk result (λ text. text ≡ refusal_line refusal) }
+    ensures line { IfOk result (λ text. text ≡ refusal_line refusal) }
+    ensures told { IfOk result (λ _. refusal ≢ refusal_of.NoMemory) }
 {
     match refusal {
         Refusal::DomainNotOffered => plain(alloc, "no\t6 DomainNotOffered\t-"),
@@ -73,8 +77,37 @@ fn line_of(alloc: Global, refusal: Refusal) -> Result<Text, NoMemory>
 
 /// The answer that a line is refused so. Want of memory has no line.
 pub fn refused_by(alloc: Global, refusal: Refusal) -> Result<Answer, NoMemory>
-    ensures { IfOk result (λ a. (a.ok ≡ false) × (a.text ≡ refusal_line refusal)) }
+    ensures line { IfOk result (λ a. (a.ok ≡ false) × (a.text ≡ refusal_line refusal)) }
+    ensures told { IfOk result (λ _. refusal ≢ refusal_of.NoMemory) }
 {
     let text = line_of(alloc, refusal)?;
+    Ok(Answer { ok: false, text })
+}
+
+// The line of a refused package URL. Want of memory has none.
+fn purl_line_of(alloc: Global, fault: PurlFault) -> Result<Text, NoMemory>
+    ensures line { IfOk result (λ text. text ≡ purl_line fault) }
+    ensures told { IfOk result (λ _. fault ≢ purl_fault_of.NoMemory) }
+{
+    match fault {
+        PurlFault::Scheme => plain(alloc, "no\t14 BadPurl\tScheme 0"),
+        PurlFault::BadType => plain(alloc, "no\t14 BadPurl\tType 0"),
+        PurlFault::Name => plain(alloc, "no\t14 BadPurl\tName 0"),
+        PurlFault::Escape(at) => placed(alloc, "no\t14 BadPurl\tEscape ", at as u128),
+        PurlFault::NotText(at) => placed(alloc, "no\t14 BadPurl\tNotText ", at as u128),
+        PurlFault::Qualifier(at) => placed(alloc, "no\t14 BadPurl\tQualifier ", at as u128),
+        PurlFault::DuplicateKey(at) => {
+            placed(alloc, "no\t14 BadPurl\tDuplicateKey ", at as u128)
+        }
+        PurlFault::NoMemory => Err(NoMemory),
+    }
+}
+
+/// The answer that a package URL is refused so. Want of memory has no line.
+pub fn refused_as_purl(alloc: Global, fault: PurlFault) -> Result<Answer, NoMemory>
+    ensures line { IfOk result (λ a. (a.ok ≡ false) × (a.text ≡ purl_line fault)) }
+    ensures told { IfOk result (λ _. fault ≢ purl_fault_of.NoMemory) }
+{
+    let text = purl_line_of(alloc, fault)?;
     Ok(Answer { ok: false, text })
 }

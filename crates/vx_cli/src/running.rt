@@ -1,8 +1,9 @@
-ghost use Rattle.std.specs.Prelude.{◌≡◌, ◌≢◌, ◌↔◌, ◌⊎◌, Bool, IsTrue, IfOk};
+ghost use Rattle.std.specs.Prelude.{◌≡◌, ◌≢◌, ◌↔◌, ◌⊎◌, ◌∷◌, [], ℕ, List, Bool, IsTrue, IfOk, codes};
 ghost use Rattle.vx_cli.specs.Answers.{IsAnswer};
 ghost use Rattle.vx_cli.specs.Fields.{texts};
 ghost use Rattle.vx_cli.specs.Outside.{Rose};
-ghost use Rattle.vx_cli.specs.Runs.{AppendsAnswer, AppendsAnswerFront, AppendsTranslation, ended_with};
+ghost use Rattle.vx_cli.specs.Runs.{AppendsAnswer, AppendsAnswerFront, AppendsSuch, ended_with};
+ghost use Rattle.vx_cli.specs.Translations.{IsTranslation, IsTranslationBack, IsSimplification, IsMembership, IsCanonicalPurl, IsComparison};
 ghost use Rattle.vx_cli.specs.Usage.{is_usage_fault};
 
 use crate::answering::answer;
@@ -37,9 +38,25 @@ pub fn run<R: Source, W: Sink>(
     ensures counts { (ok : Bool) → result ≡ ended_with ok
         → (R.faults source.new ≡ R.faults source.old) × (W.faults sink.new ≡ W.faults sink.old) }
 
-    // A translated range and its printed text hold exactly the same versions.
-    ensures translated { result ≡ Status.Done
-        → AppendsTranslation (texts words.now.items) (W.held sink.old) (W.held sink.new) }
+    // A translated range and its printed text hold exactly the same versions of the domain, either way.
+    ensures to_vers { (scheme domain range : List ℕ) → texts words.now.items ≡ codes "to-vers" ∷ scheme ∷ domain ∷ range ∷ [] → result ≡ Status.Done
+        → AppendsSuch (IsTranslation scheme domain range) (W.held sink.old) (W.held sink.new) }
+    ensures from_vers { (domain text : List ℕ) → texts words.now.items ≡ codes "from-vers" ∷ domain ∷ text ∷ [] → result ≡ Status.Done
+        → AppendsSuch (IsTranslationBack domain text) (W.held sink.old) (W.held sink.new) }
+
+    // Simplified constraints keep their set and simplify no further.
+    ensures canon { (text : List ℕ) → texts words.now.items ≡ codes "canon" ∷ text ∷ [] → result ≡ Status.Done
+        → AppendsSuch (IsSimplification text) (W.held sink.old) (W.held sink.new) }
+
+    // `yes` comes exactly where the list as it is read holds the version.
+    ensures has { (text version : List ℕ) → texts words.now.items ≡ codes "has" ∷ text ∷ version ∷ [] → result ≡ Status.Done
+        → AppendsSuch (IsMembership text version) (W.held sink.old) (W.held sink.new) }
+
+    // A package URL gets the canonical text of what it spells, and two of them mean the same package where `yes` comes.
+    ensures purl { (text : List ℕ) → texts words.now.items ≡ codes "purl" ∷ text ∷ [] → result ≡ Status.Done
+        → AppendsSuch (IsCanonicalPurl text) (W.held sink.old) (W.held sink.new) }
+    ensures same { (a b : List ℕ) → texts words.now.items ≡ codes "same" ∷ a ∷ b ∷ [] → result ≡ Status.Done
+        → AppendsSuch (IsComparison a b) (W.held sink.old) (W.held sink.new) }
 
     // Whatever it ends with, the sink is as it was, or it got a front of an answer line.
     ensures front { (sink.new ≡ sink.old) ⊎ AppendsAnswerFront (texts words.now.items) (W.held sink.old) (W.held sink.new) }
