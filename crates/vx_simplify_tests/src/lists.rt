@@ -10,10 +10,10 @@ use vx_scheme::{NoMemory, Scheme};
 use vx_vers::{Comparator, Constraint, Constraints};
 
 /// The comparators on the versions 1, 3, 5, 7 and 9, or none on one that has no constraint.
-pub type Places = [Option<Comparator>; 5];
+pub(crate) type Places = [Option<Comparator>; 5];
 
 /// How many lists there are.
-pub const LISTS: u32 = 16807;
+pub(crate) const LISTS: u32 = 16807;
 
 fn comparator_of(digit: u32) -> Option<Comparator> {
     match digit {
@@ -28,7 +28,7 @@ fn comparator_of(digit: u32) -> Option<Comparator> {
 }
 
 /// The list with this number, whose digits to the base 7 are the comparators.
-pub fn places_of(number: u32) -> Places {
+pub(crate) fn places_of(number: u32) -> Places {
     let mut places = [None; 5];
     let mut left = number;
     for i in 0..5 {
@@ -38,7 +38,7 @@ pub fn places_of(number: u32) -> Places {
     places
 }
 
-pub fn list_of(alloc: Global, places: &Places) -> Result<Constraints<Levels>, NoMemory> {
+pub(crate) fn list_of(alloc: Global, places: &Places) -> Result<Constraints<Levels>, NoMemory> {
     let mut list = Constraints::new(alloc);
     for (i, place) in places.iter().enumerate() {
         if let Some(comparator) = *place {
@@ -79,7 +79,7 @@ fn is_above_last<S: Scheme>(list: &[Constraint<S::Version>], version: &S::Versio
 }
 
 /// The places of a list that was made of some of them.
-pub fn places_in(list: &Constraints<Levels>) -> Places {
+pub(crate) fn places_in(list: &Constraints<Levels>) -> Places {
     let mut places = [None; 5];
     for constraint in list.as_slice() {
         let place = (constraint.version.level / 2) as usize;
@@ -149,7 +149,7 @@ fn discard_one(places: &mut Places) {
 }
 
 /// Discards until nothing changes.
-pub fn discard_all(places: &mut Places) {
+pub(crate) fn discard_all(places: &mut Places) {
     for _ in 0..5 {
         discard_one(places);
     }
@@ -200,7 +200,7 @@ fn has_only_holes(places: &Places) -> bool {
 }
 
 /// Whether a version from 0 to 9 is in.
-pub fn is_in(places: &Places, version: u8) -> bool {
+pub(crate) fn is_in(places: &Places, version: u8) -> bool {
     let at = (version / 2) as usize;
     if version % 2 == 1 && at < 5 {
         match places[at] {
