@@ -1,20 +1,19 @@
 -- The bytes of a version's text.
-use Rattle.std.proofs.Common.{◌≡◌, ◌<◌, ◌||◌, ◌==◌, ℕ, Bool, nat_lt, length, List, [], ◌∷◌, ◌++◌, true, Option, Some, None, refl, ap, ◌∙◌, arith}
+use Rattle.std.proofs.Common.{◌≡◌, ◌<◌, ◌||◌, ◌==◌, ℕ, Bool, List, [], ◌∷◌, ◌++◌, true, Option, Some, None, refl, ap, ◌∙◌, arith}
 use Rattle.std.specs.List.{list_all}
 use Rattle.std.specs.Char.{is_ascii_digit}
 use Rattle.std.specs.Str.{IsUtf8}
 use Rattle.std.proofs.lemmas.Bool.{and_parts, and_from}
 use Rattle.std.proofs.lemmas.Bool.Decides.{nat_tests}
-use Rattle.vx_spec.specs.Marks.{marked}
-use Rattle.vx_spec.specs.Numerals.{is_numeral}
+use Rattle.vx_spec.specs.Marks.{in_front, marked}
 use Rattle.vx_spec.proofs.TextLaws.{each_by_test, utf8_by_each}
 use Rattle.deb_scheme.specs.Version.{Fields}
-use Rattle.deb_scheme.specs.Unique.{made_of, numeral_bytes}
-use Rattle.deb_scheme.specs.Spelling.{Parts, HasForm, Spells, in_front, whole, is_revision_byte, is_upstream_byte, is_made_of, is_epoch, is_revision}
+use Rattle.deb_scheme.specs.Laws.Unique.{made_of, numeral_bytes}
+use Rattle.deb_scheme.specs.Spelling.{Parts, AreVersionParts, Spells, colon, hyphen, whole, is_revision_byte, is_upstream_byte, is_epoch, is_revision}
 
--- a byte of a version: one of an upstream part, or ':' (58)
+-- a byte of a version: one of an upstream part, or ':'
 abbrev pub is_version_byte : ℕ → Bool
-is_version_byte b = is_upstream_byte b || b == 58
+is_version_byte b = is_upstream_byte b || b == colon
 
 all_of : (test other : ℕ → Bool) → ((b : ℕ) → test b ≡ true → other b ≡ true) → (text : List ℕ) → list_all test text ≡ true → list_all other text ≡ true
 all_of test other gives [] all = refl
@@ -37,20 +36,20 @@ upstream_is b is = rw is refl
 revision_is : (b : ℕ) → is_revision_byte b ≡ true → is_version_byte b ≡ true
 revision_is b is = rw is refl
 
-marked_bytes : (revision : Option (List ℕ)) → is_revision revision ≡ true → list_all is_version_byte (marked 45 revision) ≡ true
+marked_bytes : (revision : Option (List ℕ)) → is_revision revision ≡ true → list_all is_version_byte (marked hyphen revision) ≡ true
 marked_bytes None is = refl
-marked_bytes (Some part) is = and_from (is_version_byte 45) (list_all is_version_byte part) refl (all_of is_revision_byte is_version_byte revision_is part (made_of is_revision_byte part is))
+marked_bytes (Some part) is = and_from (is_version_byte hyphen) (list_all is_version_byte part) refl (all_of is_revision_byte is_version_byte revision_is part (made_of is_revision_byte part is))
 
-front_bytes : (epoch : Option (List ℕ)) (rest : List ℕ) → is_epoch epoch ≡ true → list_all is_version_byte rest ≡ true → list_all is_version_byte (in_front 58 epoch rest) ≡ true
+front_bytes : (epoch : Option (List ℕ)) (rest : List ℕ) → is_epoch epoch ≡ true → list_all is_version_byte rest ≡ true → list_all is_version_byte (in_front colon epoch rest) ≡ true
 front_bytes None rest is all = all
 front_bytes (Some part) rest is all =
-    all_append is_version_byte part (58 ∷ rest) (all_of is_ascii_digit is_version_byte digit_is part (numeral_bytes part is))
-    (and_from (is_version_byte 58) (list_all is_version_byte rest) refl all)
+    all_append is_version_byte part (colon ∷ rest) (all_of is_ascii_digit is_version_byte digit_is part (numeral_bytes part is))
+    (and_from (is_version_byte colon) (list_all is_version_byte rest) refl all)
 
-whole_bytes : (p : Parts) → HasForm p → list_all is_version_byte (whole p) ≡ true
+whole_bytes : (p : Parts) → AreVersionParts p → list_all is_version_byte (whole p) ≡ true
 whole_bytes p form =
     front_bytes p.epoch _ form.epoch
-    (all_append is_version_byte p.upstream (marked 45 p.revision) (all_of is_upstream_byte is_version_byte upstream_is p.upstream (made_of is_upstream_byte p.upstream form.upstream)) (marked_bytes p.revision form.revision))
+    (all_append is_version_byte p.upstream (marked hyphen p.revision) (all_of is_upstream_byte is_version_byte upstream_is p.upstream (made_of is_upstream_byte p.upstream form.upstream)) (marked_bytes p.revision form.revision))
 
 -- each byte of a version's text is one of a version
 pub spelled_bytes : (text : List ℕ) (v : Fields) → Spells text v → list_all is_version_byte text ≡ true

@@ -1,4 +1,4 @@
 pub mod Cutting
 pub mod PairLaws
-pub mod Giving
+pub mod PastLaws
 pub mod Bytes

@@ -1,17 +1,15 @@
 -- The letters of a part, pair by pair.
-use Rattle.std.proofs.Common.{◌≡◌, ◌≢◌, ◌≤◌, ◌<◌, ◌^◌, ◌++◌, ℕ, zero, suc, List, [], ◌∷◌, length, map, take, true, refl, sym, ap, ◌∙◌, subst, append_assoc, inl, inr, arith}
-use Rattle.std.specs.List.{AllByRecursion, flat_map, list_all, prefix_len}
+use Rattle.std.proofs.Common.{◌≡◌, ◌≢◌, ◌≤◌, ◌<◌, ◌^◌, ◌++◌, ℕ, zero, suc, List, [], ◌∷◌, length, map, take, refl, sym, ap, ◌∙◌, subst, append_assoc, inl, inr, arith}
+use Rattle.std.specs.List.{AllByRecursion, flat_map, prefix_len}
 use Rattle.std.specs.Char.{is_ascii_digit}
-use Rattle.std.specs.Str.{IsUtf8}
 use Rattle.std.proofs.lemmas.Bool.{cases_Bool}
-use Rattle.std.proofs.lemmas.Bool.Decides.{nat_tests}
 use Rattle.vx_spec.specs.Runs.{run, past}
 use Rattle.vx_spec.specs.Numerals.{value}
 use Rattle.vx_spec.proofs.RunLaws.{past_step, past_stays, past_most}
-use Rattle.vx_spec.proofs.TextLaws.{each_by_test, utf8_by_each}
+use Rattle.vx_spec.proofs.EachLaws.{each_append, each_behind}
 use Rattle.vx_order.specs.Letters.{end_letter}
 use Rattle.vx_order.specs.declared.letter.Letter.{Letter}
-use Rattle.deb_scheme.specs.Version.{is_other, first_pair, behind_pair, pairs_in, pair_letters, byte_letter, letters_of, LetterFits, end_rank, number_letter}
+use Rattle.deb_scheme.specs.Version.{is_other, first_pair, behind_pair, pairs_in, pair_letters, byte_letter, letters_of, LetterIsWithin, end_rank, number_letter}
 
 -- a pair takes one byte off at least
 pub behind_less : (b : ℕ) (part : List ℕ) → length (behind_pair (b ∷ part)) ≤ length part
@@ -44,24 +42,8 @@ letters_step (b ∷ part) some =
     ap (λ pairs. pair_letters (first_pair (b ∷ part)) ++ flat_map pair_letters pairs)
     (enough (length part) (length (behind_pair (b ∷ part))) (behind_pair (b ∷ part)) (behind_less b part) (omega arith))
 
-module _ {C : Type 0} (P : C → Type 0) where
-  pub each_append : (xs ys : List C) → AllByRecursion P xs → AllByRecursion P ys → AllByRecursion P (xs ++ ys)
-  each_append [] ys p q = q
-  each_append (x ∷ xs) ys p q = (p.0, each_append xs ys p.1 q)
-
-  pub each_behind : (xs ys : List C) → AllByRecursion P (xs ++ ys) → AllByRecursion P ys
-  each_behind [] ys p = p
-  each_behind (x ∷ xs) ys p = each_behind xs ys p.1
-
--- digits are UTF-8
-digit_byte : (b : ℕ) → is_ascii_digit b ≡ true → b < 128
-digit_byte b is = grind (arith, nat_tests)
-
-pub digits_utf8 : (text : List ℕ) → list_all is_ascii_digit text ≡ true → IsUtf8 text
-digits_utf8 text all = utf8_by_each text (each_by_test (λ b. b < 128) is_ascii_digit text digit_byte all)
-
 -- the letters of a pair are within the limit where its bytes and its number are
-bytes_within : (others : List ℕ) → AllByRecursion (λ b. b < 2 ^ 128) others → AllByRecursion LetterFits (map byte_letter others)
+bytes_within : (others : List ℕ) → AllByRecursion (λ b. b < 2 ^ 128) others → AllByRecursion LetterIsWithin (map byte_letter others)
 bytes_within [] all = tt
 bytes_within (b ∷ others) all = (all.0, bytes_within others all.1)
 
@@ -70,22 +52,22 @@ each_taken P zero text all = tt
 each_taken P (suc n) [] all = tt
 each_taken P (suc n) (b ∷ text) all = (all.0, each_taken P n text all.1)
 
-pub pair_within : (part : List ℕ) → AllByRecursion (λ b. b < 2 ^ 128) part → value (first_pair part).digits < 2 ^ 128 → AllByRecursion LetterFits (pair_letters (first_pair part))
+pub pair_within : (part : List ℕ) → AllByRecursion (λ b. b < 2 ^ 128) part → value (first_pair part).digits < 2 ^ 128 → AllByRecursion LetterIsWithin (pair_letters (first_pair part))
 pair_within part all number =
-    each_append LetterFits (map byte_letter (run is_other part)) (end_letter end_rank ∷ number_letter (first_pair part).digits ∷ [])
+    each_append LetterIsWithin (map byte_letter (run is_other part)) (end_letter end_rank ∷ number_letter (first_pair part).digits ∷ [])
     (bytes_within (run is_other part) (each_taken (λ b. b < 2 ^ 128) (prefix_len is_other part) part all))
     (omega arith, (number, tt))
 
-number_first : (rest : List ℕ) (more : List Letter) → AllByRecursion LetterFits (pair_letters (first_pair rest) ++ more) → value (first_pair rest).digits < 2 ^ 128
+number_first : (rest : List ℕ) (more : List Letter) → AllByRecursion LetterIsWithin (pair_letters (first_pair rest) ++ more) → value (first_pair rest).digits < 2 ^ 128
 number_first rest more fits =
-    let here = subst (AllByRecursion LetterFits) (append_assoc (map byte_letter (run is_other rest)) (end_letter end_rank ∷ number_letter (first_pair rest).digits ∷ []) more) fits in
-    (each_behind LetterFits (map byte_letter (run is_other rest)) (end_letter end_rank ∷ number_letter (first_pair rest).digits ∷ more) here).1.0
+    let here = subst (AllByRecursion LetterIsWithin) (append_assoc (map byte_letter (run is_other rest)) (end_letter end_rank ∷ number_letter (first_pair rest).digits ∷ []) more) fits in
+    (each_behind LetterIsWithin (map byte_letter (run is_other rest)) (end_letter end_rank ∷ number_letter (first_pair rest).digits ∷ more) here).1.0
 
 -- the number of the pair that stands first in the rest is within the limit where all letters are
-pub number_within : (letters all : List Letter) (rest : List ℕ) → rest ≢ [] → letters ++ letters_of rest ≡ all → AllByRecursion LetterFits all → value (first_pair rest).digits < 2 ^ 128
+pub number_within : (letters all : List Letter) (rest : List ℕ) → rest ≢ [] → letters ++ letters_of rest ≡ all → AllByRecursion LetterIsWithin all → value (first_pair rest).digits < 2 ^ 128
 number_within letters all rest some joined fits =
-    let here = each_behind LetterFits letters (letters_of rest) (subst (AllByRecursion LetterFits) (sym joined) fits) in
-    number_first rest (letters_of (behind_pair rest)) (subst (AllByRecursion LetterFits) (letters_step rest some) here)
+    let here = each_behind LetterIsWithin letters (letters_of rest) (subst (AllByRecursion LetterIsWithin) (sym joined) fits) in
+    number_first rest (letters_of (behind_pair rest)) (subst (AllByRecursion LetterIsWithin) (letters_step rest some) here)
 
 -- one pair more
 pub one_more : (letters all : List Letter) (rest : List ℕ) → rest ≢ [] → letters ++ letters_of rest ≡ all → (letters ++ pair_letters (first_pair rest)) ++ letters_of (behind_pair rest) ≡ all

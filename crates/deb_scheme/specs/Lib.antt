@@ -2,8 +2,5 @@ pub mod Version
 pub mod Order
 pub mod Spelling
 pub mod Writing
-pub mod Cuts
-pub mod Written
-pub mod Values
-pub mod Unique
 pub mod Laws
+pub mod Steps

@@ -8,11 +8,11 @@ use Rattle.vx_spec.proofs.RowLaws.{rows_total}
 use Rattle.vx_order.specs.declared.letter.Letter.{Letter}
 use Rattle.vx_order.specs.Letters.{letters_cmp}
 use Rattle.vx_order.proofs.LetterLaws.{letters_total}
-use Rattle.deb_scheme.specs.Version.{Fields, end_rank}
+use Rattle.deb_scheme.specs.Version.{Fields, end_rank, number_rank}
 
 -- the epoch as a letter
 abbrev pub epoch_letter : ℕ → Letter
-epoch_letter epoch = record { rank = 4; number = epoch; text = [] }
+epoch_letter epoch = record { rank = number_rank; number = epoch; text = [] }
 
 -- the epoch, then the upstream part, then the revision
 abbrev pub key : Fields → List (List Letter)

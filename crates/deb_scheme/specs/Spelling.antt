@@ -1,11 +1,11 @@
 -- The text of a version after Debian Policy, 5.6.12: the text is its parts, joined by their signs; each part has its form;
--- and the version has their values. ':' is 58, '-' is 45, '.' is 46, '+' is 43, '~' is 126 and '0' is 48.
-use Rattle.std.specs.Prelude.{◌≡◌, ℕ, ◌&&◌, ◌||◌, ◌==◌, nat_lt, Bool, true, List, [], ◌∷◌, ◌++◌, length, Option, Some, None}
+-- and the version has their values.
+use Rattle.std.specs.Prelude.{◌≡◌, ℕ, ◌&&◌, ◌||◌, ◌==◌, nat_lt, Bool, true, List, ◌++◌, length, Option, Some, None, codes}
 use Rattle.std.specs.Char.{is_ascii_alphanumeric}
 use Rattle.std.specs.List.{list_all}
-use Rattle.vx_spec.specs.Marks.{Lacks, marked}
+use Rattle.vx_spec.specs.Marks.{Lacks, in_front, marked}
 use Rattle.vx_spec.specs.Numerals.{is_numeral, value}
-use Rattle.deb_scheme.specs.Version.{Fields, letters_of}
+use Rattle.deb_scheme.specs.Version.{Fields, letters_of, tilde}
 
 -- the parts of a version's text, two of which may be left out
 pub record Parts : Type 0 where
@@ -13,22 +13,33 @@ pub record Parts : Type 0 where
   pub upstream : List ℕ
   pub revision : Option (List ℕ)
 
--- a part that may be left out and its mark, in front of the rest
-abbrev pub in_front : ℕ → Option (List ℕ) → List ℕ → List ℕ
-in_front mark None rest = rest
-in_front mark (Some part) rest = part ++ (mark ∷ rest)
+-- the byte ':'
+abbrev pub colon : ℕ
+colon = 58
+
+-- the byte '-'
+abbrev pub hyphen : ℕ
+hyphen = 45
 
 -- the whole text: the epoch and ':', the upstream part, '-' and the revision
 abbrev pub whole : Parts → List ℕ
-whole p = in_front 58 p.epoch (p.upstream ++ marked 45 p.revision)
+whole p = in_front colon p.epoch (p.upstream ++ marked hyphen p.revision)
+
+-- the byte '.'
+abbrev pub dot : ℕ
+dot = 46
+
+-- the byte '+'
+abbrev pub plus : ℕ
+plus = 43
 
 -- a letter, a digit, '.', '+' or '~'
 abbrev pub is_revision_byte : ℕ → Bool
-is_revision_byte b = is_ascii_alphanumeric b || b == 46 || b == 43 || b == 126
+is_revision_byte b = is_ascii_alphanumeric b || b == dot || b == plus || b == tilde
 
 -- the same, or '-'
 abbrev pub is_upstream_byte : ℕ → Bool
-is_upstream_byte b = is_revision_byte b || b == 45
+is_upstream_byte b = is_revision_byte b || b == hyphen
 
 -- one such byte or more
 abbrev pub is_made_of : (ℕ → Bool) → List ℕ → Bool
@@ -45,11 +56,11 @@ is_revision None = true
 is_revision (Some part) = is_made_of is_revision_byte part
 
 -- each part has its form, and the revision is what stands behind the last '-': without one the upstream part holds none
-pub record HasForm (p : Parts) : Type 0 where
+pub record AreVersionParts (p : Parts) : Type 0 where
   pub epoch : is_epoch p.epoch ≡ true
   pub upstream : is_made_of is_upstream_byte p.upstream ≡ true
   pub revision : is_revision p.revision ≡ true
-  pub last : p.revision ≡ None → Lacks 45 p.upstream
+  pub last : p.revision ≡ None → Lacks hyphen p.upstream
 
 -- an epoch that is left out is 0
 abbrev pub epoch_value : Option (List ℕ) → ℕ
@@ -58,7 +69,7 @@ epoch_value (Some part) = value part
 
 -- a revision that is left out is as good as '0'
 abbrev pub revision_text : Option (List ℕ) → List ℕ
-revision_text None = 48 ∷ []
+revision_text None = codes "0"
 revision_text (Some part) = part
 
 -- the version of a text with these parts
@@ -69,7 +80,7 @@ version_of text p = record { text = text; epoch = epoch_value p.epoch; upstream 
 pub record Spells (text : List ℕ) (v : Fields) : Type 0 where
   pub parts : Parts
   pub joined : text ≡ whole parts
-  pub form : HasForm parts
+  pub form : AreVersionParts parts
   pub values : v ≡ version_of text parts
 
 -- The fields are a version's: its text spells it.

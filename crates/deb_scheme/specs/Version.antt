@@ -42,21 +42,38 @@ pairs_in (suc most) (b ∷ part) = first_pair (b ∷ part) ∷ pairs_in most (be
 abbrev pub pairs_of : List ℕ → List Pair
 pairs_of part = pairs_in (length part) part
 
--- '~' (126) is the lowest; below letters stands the end of a run (1), above them any other byte
+-- the byte '~'
+abbrev pub tilde : ℕ
+tilde = 126
+
+-- The ranks of letters, from the lowest: '~', the end of a run, ASCII letters, any other byte that is no digit. The end
+-- of a run has the rank that ends a list too.
+abbrev pub tilde_rank : ℕ
+tilde_rank = 0
+
+abbrev pub end_rank : ℕ
+end_rank = 1
+
+abbrev pub alphabetic_rank : ℕ
+alphabetic_rank = 2
+
+abbrev pub other_rank : ℕ
+other_rank = 3
+
+-- the rank of numbers, which stand where no other letter does
+abbrev pub number_rank : ℕ
+number_rank = 4
+
 abbrev pub byte_rank : ℕ → ℕ
-byte_rank b = if b == 126 then 0 else (if is_ascii_alphabetic b then 2 else 3)
+byte_rank b = if b == tilde then tilde_rank else (if is_ascii_alphabetic b then alphabetic_rank else other_rank)
 
 -- a byte that is no digit
 abbrev pub byte_letter : ℕ → Letter
 byte_letter b = record { rank = byte_rank b; number = b; text = [] }
 
--- the rank of the end of a run, which is the end of a list too
-abbrev pub end_rank : ℕ
-end_rank = 1
-
 -- a number, the empty one being 0
 abbrev pub number_letter : List ℕ → Letter
-number_letter digits = record { rank = 4; number = value digits; text = [] }
+number_letter digits = record { rank = number_rank; number = value digits; text = [] }
 
 -- each byte of the first run, then the run's end, then the number
 abbrev pub pair_letters : Pair → List Letter
@@ -67,9 +84,9 @@ abbrev pub letters_of : List ℕ → List Letter
 letters_of part = flat_map pair_letters (pairs_of part)
 
 -- a letter's number is within the limit of 128 bits
-abbrev pub LetterFits : Letter → Type 0
-LetterFits letter = letter.number < 2 ^ 128
+abbrev pub LetterIsWithin : Letter → Type 0
+LetterIsWithin letter = letter.number < 2 ^ 128
 
 -- the epoch and each run of digits are within the limit of 128 bits (and so is each byte)
-abbrev pub Fits : Fields → Type 0
-Fits v = (v.epoch < 2 ^ 128) × AllByRecursion LetterFits v.upstream × AllByRecursion LetterFits v.revision
+abbrev pub IsWithin : Fields → Type 0
+IsWithin v = (v.epoch < 2 ^ 128) × AllByRecursion LetterIsWithin v.upstream × AllByRecursion LetterIsWithin v.revision

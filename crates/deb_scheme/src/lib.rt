@@ -3,6 +3,7 @@
 
 mod letters;
 mod order;
+mod past;
 mod scheme;
 mod spelling;
 #[cfg(test)]
@@ -11,6 +12,7 @@ mod version;
 mod writing;
 
 pub use order::order_by_first_difference;
+pub use past::{limits_agree, past_numeral};
 pub use scheme::Deb;
 pub use spelling::is_version;
 pub use version::DebVersion;

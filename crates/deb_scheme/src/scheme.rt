@@ -12,11 +12,11 @@ pub struct Deb;
 impl Scheme for Deb {
     ghost use Rattle.std.specs.Prelude.{◌≡◌, ⊤};
     ghost use Rattle.vx_scheme.specs.declared.name.SchemeName.TheVariants as name_of;
-    ghost use Rattle.deb_scheme.specs.Version.{Fits};
+    ghost use Rattle.deb_scheme.specs.Version.{IsWithin};
     ghost use Rattle.deb_scheme.specs.Spelling.{Spells, IsVersion};
     ghost use Rattle.deb_scheme.specs.Writing.{normal};
     ghost use Rattle.deb_scheme.specs.Order.{order_of, order_total, AnswersKeys};
-    ghost use Rattle.deb_scheme.specs.Laws.{deb_texts};
+    ghost use Rattle.deb_scheme.specs.Laws.Texts.{deb_texts};
 
     type Version = DebVersion;
 
@@ -24,7 +24,7 @@ impl Scheme for Deb {
 
     ghost IsVersion = { IsVersion };
 
-    ghost IsWithin = { Fits };
+    ghost IsWithin = { IsWithin };
 
     ghost order = { order_of };
 
@@ -57,8 +57,8 @@ impl Scheme for Deb {
     /// How two versions compare: by the first place at which their keys differ.
     fn compare(a: &DebVersion, b: &DebVersion) -> Ordering
         ensures order { result ≡ order_of a.now b.now }
-        ensures left { IsVersion a.now × Fits a.now }
-        ensures right { IsVersion b.now × Fits b.now }
+        ensures left { IsVersion a.now × IsWithin a.now }
+        ensures right { IsVersion b.now × IsWithin b.now }
         ensures places { AnswersKeys a.now b.now result }
     {
         let (_left, _right) = (a.epoch, b.epoch);

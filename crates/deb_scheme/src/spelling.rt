@@ -1,20 +1,19 @@
-ghost use Rattle.std.specs.Prelude.{◌≡◌, ◌==◌, ◌↔◌, ◌<◌, ◌^◌, true, MatchOption, IsTrue, IfOk, IfErr};
+ghost use Rattle.std.specs.Prelude.{◌≡◌, ◌↔◌, ◌<◌, ◌^◌, true, MatchOption, IsTrue, IfOk, IfErr};
 ghost use Rattle.std.specs.Option.{option_copied};
 ghost use Rattle.std.specs.List.{AllByRecursion, list_all};
-ghost use Rattle.vx_spec.specs.Numerals.{is_numeral, value};
 ghost use Rattle.vx_scheme.specs.Scheme.{Refuses};
-ghost use Rattle.deb_scheme.specs.Version.{Fits, LetterFits, letters_of};
-ghost use Rattle.deb_scheme.specs.Spelling.{HasForm, Spells, IsVersionText, version_of, is_made_of, is_upstream_byte, is_revision_byte, is_epoch, is_revision, epoch_value, revision_text};
-ghost use Rattle.deb_scheme.specs.Values.{Gives};
-ghost use Rattle.deb_scheme.specs.Cuts.{IsFirstCut, IsLastCut, IsApart};
-ghost use Rattle.deb_scheme.specs.Written.{parts, IsWritten, NotWritten};
+ghost use Rattle.vx_scheme.specs.Values.{Gives};
+ghost use Rattle.deb_scheme.specs.Version.{IsWithin, LetterIsWithin, letters_of};
+ghost use Rattle.deb_scheme.specs.Spelling.{Spells, IsVersionText, version_of, is_made_of, is_upstream_byte, is_revision_byte, is_epoch, is_revision, epoch_value, revision_text};
+ghost use Rattle.deb_scheme.specs.Steps.Apart.{IsApart};
+ghost use Rattle.deb_scheme.specs.Steps.Written.{parts, IsVersionWritten, NoVersionWritten};
 
-use crate::letters::{letters, numeral_of};
+use crate::letters::letters;
 use crate::version::DebVersion;
 use std::alloc::Global;
 use vx_order::Letters;
-use vx_scheme::{NoMemory, Text, VersionFault};
-use vx_text::{cut, is_numeral};
+use vx_scheme::{Text, VersionFault};
+use vx_text::{first_cut, is_numeral, last_cut, numeral_of};
 
 /// The parts of a version's text, as they are written.
 #[derive(Clone, Copy)]
@@ -30,19 +29,19 @@ pub(crate) struct Written<'a> {
 /// The version that the text spells. The forms of the parts are tested before a value is made, so that `NotAVersion`
 /// comes before `Numeral`.
 pub(crate) fn read(alloc: Global, text: &str) -> Result<DebVersion, VersionFault>
-    ensures ok { IfOk result (λ v. Spells text.now v × Fits v) }
-    ensures err { IfErr result (Refuses Spells Fits text.now) }
+    ensures ok { IfOk result (λ v. Spells text.now v × IsWithin v) }
+    ensures err { IfErr result (Refuses Spells IsWithin text.now) }
 {
     let Some(written) = take_apart(text) else {
         return Err(VersionFault::NotAVersion);
     };
-    valued(alloc, text, &written)
+    version_of_parts(alloc, text, &written)
 }
 
 /// The parts of a version's text, each of which has its form; `None` exactly where the text has no such parts. It
 /// takes no memory.
 fn take_apart(text: &str) -> Option<Written<'_>>
-    ensures { MatchOption result (NotWritten text.now) (λ w. IsWritten text.now (parts w)) }
+    ensures { MatchOption result (NoVersionWritten text.now) (λ w. IsVersionWritten text.now (parts w)) }
 {
     let written = cut_apart(text);
     if has_form(&written) {
@@ -68,27 +67,6 @@ fn cut_apart(text: &str) -> Written<'_>
         epoch,
         upstream,
         revision,
-    }
-}
-
-/// The text before the first mark, where there is one, and the rest.
-fn first_cut(text: &str, mark: char) -> (Option<&str>, &str)
-    requires { mark < 128 }
-    ensures { IsFirstCut mark text.now (option_copied result.0) result.1.now }
-{
-    match cut(text, mark) {
-        (front, Some(behind)) => (Some(front), behind),
-        (whole, None) => (None, whole),
-    }
-}
-
-/// The text before the last mark, and the text behind it.
-fn last_cut(text: &[u8], mark: u8) -> (&[u8], Option<&[u8]>)
-    ensures { IsLastCut mark text.now result.0.now (option_copied result.1) }
-{
-    match text.iter().rposition(|byte| *byte == mark) {
-        Some(at) => (&text[..at], Some(&text[at + 1..])),
-        None => (text, None),
     }
 }
 
@@ -144,14 +122,18 @@ fn is_revision_byte(byte: u8) -> bool
 
 /// The version that the parts stand for. `Numeral` comes exactly where one of their numerals passes 2^128-1, unless
 /// memory ends before.
-fn valued(alloc: Global, text: &str, written: &Written) -> Result<DebVersion, VersionFault>
-    requires { IsWritten text.now (parts written.now) }
-    ensures { Gives Fits result (version_of text.now (parts written.now)) }
+fn version_of_parts(
+    alloc: Global,
+    text: &str,
+    written: &Written,
+) -> Result<DebVersion, VersionFault>
+    requires { IsVersionWritten text.now (parts written.now) }
+    ensures { Gives IsWithin result (version_of text.now (parts written.now)) }
 {
     let epoch = epoch_number(written.epoch)?;
     let upstream = letters(alloc, written.upstream)?;
     let revision = revision_letters(alloc, written.revision)?;
-    let text = text_of(alloc, text)?;
+    let text = Text::copy_of(alloc, text)?;
     Ok(DebVersion {
         text,
         epoch,
@@ -171,18 +153,10 @@ fn epoch_number(part: Option<&str>) -> Result<u128, VersionFault>
 }
 
 fn revision_letters(alloc: Global, part: Option<&[u8]>) -> Result<Letters, VersionFault>
-    ensures { Gives (AllByRecursion LetterFits) result (letters_of (revision_text (option_copied part.entry))) }
+    ensures { Gives (AllByRecursion LetterIsWithin) result (letters_of (revision_text (option_copied part.entry))) }
 {
     match part {
         Some(part) => letters(alloc, part),
         None => letters(alloc, b"0"),
     }
-}
-
-fn text_of(alloc: Global, text: &str) -> Result<Text, NoMemory>
-    ensures { IfOk result (λ copied. copied ≡ text.now) }
-{
-    let mut copied = Text::new(alloc);
-    copied.push_str(text)?;
-    Ok(copied)
 }

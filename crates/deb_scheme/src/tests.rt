@@ -1,4 +1,4 @@
-use crate::{Deb, is_version};
+use crate::{Deb, is_version, past_numeral};
 use std::alloc::Global;
 use std::cmp::Ordering;
 use std::test::Fail;
@@ -109,5 +109,21 @@ fn refuses(rt: HostRuntime) {
             Some(VersionFault::Numeral),
             "{text}"
         );
+    }
+}
+
+// Texts of versions, with the place of the first numeral past the limit where they begin at 3.
+const PLACES: [(&str, Option<usize>); 4] = [
+    ("1:340282366920938463463374607431768211455-1", None),
+    ("340282366920938463463374607431768211456:1", Some(3)),
+    ("1.340282366920938463463374607431768211456", Some(5)),
+    ("1-a0340282366920938463463374607431768211456b", Some(6)),
+];
+
+#[test]
+fn finds_numerals_past_the_limit(rt: HostRuntime) {
+    for (text, place) in PLACES {
+        assert!(rt; text.len() < 100);
+        assert_eq!(rt; past_numeral(text.as_bytes(), 3), place, "{text}");
     }
 }

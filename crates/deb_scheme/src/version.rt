@@ -19,14 +19,14 @@ pub struct DebVersion {
 }
 
 impl Model for DebVersion {
-    ghost use Rattle.deb_scheme.specs.Version.{Fields, Fits};
+    ghost use Rattle.deb_scheme.specs.Version.{Fields, IsWithin};
     ghost use Rattle.deb_scheme.specs.Spelling.{IsVersion};
 
     ghost Value = { Fields };
 
     ghost view = { λ v. record { text = v.text; epoch = v.epoch; upstream = v.upstream; revision = v.revision } };
 
-    ghost invariant = { λ v. IsVersion (record { text = v.text; epoch = v.epoch; upstream = v.upstream; revision = v.revision }) × Fits (record { text = v.text; epoch = v.epoch; upstream = v.upstream; revision = v.revision }) };
+    ghost invariant = { λ v. IsVersion (record { text = v.text; epoch = v.epoch; upstream = v.upstream; revision = v.revision }) × IsWithin (record { text = v.text; epoch = v.epoch; upstream = v.upstream; revision = v.revision }) };
 }
 
 /// The same version once more.

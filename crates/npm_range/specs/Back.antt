@@ -1,11 +1,11 @@
 -- The way back: the range text of spans, the same in each domain. Nothing is refused, and versions are normal texts.
-use Rattle.std.specs.Prelude.{◌&&◌, ◌++◌, not, ℕ, Bool, List, Option, Some, None, Result, Ok, codes, if◌then◌else◌}
+use Rattle.std.specs.Prelude.{◌++◌, ℕ, List, Option, Some, None, Result, Ok, codes, if◌then◌else◌}
 use Rattle.std.specs.List.{join_by}
-use Rattle.std.specs.Ordering.{is_eq}
 use Rattle.vx_scheme.specs.declared.back_fault.BackFault.{BackFault}
 use Rattle.vx_scheme.specs.declared.domain.Domain.{Domain}
 use Rattle.vx_scheme.specs.declared.span.Cut.{Cut}
 use Rattle.vx_scheme.specs.declared.span.Span.{Span}
+use Rattle.vx_range.specs.Spans.{is_point}
 use Rattle.npm_scheme.specs.Version.{Fields}
 use Rattle.npm_scheme.specs.Order.{order_of}
 use Rattle.npm_scheme.specs.Writing.{normal}
@@ -18,13 +18,9 @@ lower_text cut = (if cut.after then codes ">" else codes ">=") ++ normal cut.ver
 abbrev pub upper_text : Cut Fields → List ℕ
 upper_text cut = (if cut.after then codes "<=" else codes "<") ++ normal cut.version
 
--- the cuts stand before and after one order class
-abbrev pub is_point : Cut Fields → Cut Fields → Bool
-is_point lower upper = not lower.after && (upper.after && is_eq (order_of lower.version upper.version))
-
 -- a point is the version of its first cut; any other span has both its sides
 abbrev pub between_text : Cut Fields → Cut Fields → List ℕ
-between_text lower upper = if is_point lower upper then normal lower.version else (lower_text lower ++ (codes " " ++ upper_text upper))
+between_text lower upper = if is_point order_of lower upper then normal lower.version else (lower_text lower ++ (codes " " ++ upper_text upper))
 
 -- a side without a cut is left out, and `*` is every version
 abbrev pub sides_text : Option (Cut Fields) → Option (Cut Fields) → List ℕ

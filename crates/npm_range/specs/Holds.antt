@@ -1,7 +1,6 @@
 -- The test of one version against a construct, after the README of node-semver, by precedence. It names no end of a
 -- range and no domain. Numerals are of any size.
 use Rattle.std.specs.Prelude.{◌==◌, ◌&&◌, ◌||◌, ◌+◌, if◌then◌else◌, nat_lt, ℕ, Bool, true, false, List, [], ◌∷◌}
-use Rattle.std.specs.List.{list_any, list_all}
 use Rattle.std.specs.Ordering.{is_eq, is_lt, is_le, is_gt, is_ge}
 use Rattle.npm_scheme.specs.Version.{Fields, release_of}
 use Rattle.npm_scheme.specs.Order.{order_of}
@@ -120,7 +119,3 @@ holds_by Caret = caret
 -- the construct holds of the version
 abbrev pub holds : Construct → Fields → Bool
 holds c v = holds_by c.operator c.partial v
-
--- all constructs of some alternative hold of the version; an alternative without constructs holds always
-abbrev pub holds_all : List (List Construct) → Fields → Bool
-holds_all all v = list_any (λ constructs. list_all (λ c. holds c v) constructs) all

@@ -1,64 +1,86 @@
--- The first refusal of a range text: of pieces, the first that is no construct; where there is none such, of numerals,
--- the first that passes 2^128-1.
-use Rattle.std.specs.Prelude.{◌≡◌, ◌&&◌, ◌+◌, ◌-◌, ◌^◌, not, nat_lt, ℕ, Bool, true, false, List, [], ◌∷◌, ◌++◌, ◌⊎◌, length, if◌then◌else◌, Option, Some, None}
-use Rattle.vx_spec.specs.Numerals.{is_numeral, value}
-use Rattle.vx_spec.specs.Firsts.{IsFirst}
-use Rattle.vx_scheme.specs.declared.range_fault.RangeFault.{RangeFault}
-use Rattle.vx_scheme.specs.declared.range_fault.RangeFault.TheVariants.{Syntax, Numeral, NoEndpoint, NoMemory}
+-- What is refused of a construct: a numeral past 2^128-1, or one that cannot be raised within it.
+use Rattle.std.specs.Prelude.{◌≡◌, ◌==◌, ◌+◌, ◌-◌, ◌<◌, ◌^◌, nat_lt, ℕ, Bool, true, List, ◌∷◌, ◌⊎◌, length, if◌then◌else◌, Option, Some, None}
+use Rattle.vx_range.specs.declared.making.Outcome.{Outcome}
+use Rattle.vx_range.specs.declared.making.Outcome.TheVariants.{Spans, TooHigh}
+use Rattle.vx_range.specs.Pieces.{Written}
+use Rattle.npm_scheme.specs.Version.{IsWithin}
 use Rattle.npm_scheme.specs.Spelling.{Parts}
-use Rattle.npm_scheme.specs.Written.{IsWritten, NotWritten}
-use Rattle.npm_range.specs.Pieces.{WrittenPiece, IsCutInto}
-use Rattle.npm_range.specs.Partials.{is_any, is_short, numbers, partial_text, IsConstruct}
+use Rattle.npm_scheme.specs.Written.{IsVersionWritten}
+use Rattle.npm_scheme.specs.Past.{first_past_part}
+use Rattle.npm_range.specs.declared.cutting.Kind.{Kind}
+use Rattle.npm_range.specs.declared.construct.Construct.{Construct}
+use Rattle.npm_range.specs.declared.construct.Operator.{Operator}
+use Rattle.npm_range.specs.declared.construct.Operator.TheVariants.{Equal, Less, LessEqual, Greater, GreaterEqual, Tilde, Caret}
+use Rattle.npm_range.specs.declared.construct.Partial.{Partial}
+use Rattle.npm_range.specs.declared.construct.Partial.TheVariants.{Any, Major, Minor, Full}
+use Rattle.npm_range.specs.Reading.{is_short, numbers, before_any, partial_text, ReadsAs}
 
--- the pieces of all alternatives, from left to right
-abbrev pub flat : List (List WrittenPiece) → List WrittenPiece
-flat [] = []
-flat (pieces ∷ all) = pieces ++ flat all
+-- ---- numerals past the limit
 
--- a piece is no construct, at the place where it begins
-abbrev pub IsNoConstruct : WrittenPiece → Option ℕ → Type 0
-IsNoConstruct piece None = IsConstruct piece
-IsNoConstruct piece (Some at) = ¬ (IsConstruct piece) × (at ≡ piece.at)
+-- The parts of a partial's text that count, with one byte between each two: of one to three numbers those before the
+-- first sign for any number, and of a whole version its numbers and pre-release identifiers, but not its build.
+abbrev pub AreCounted : List ℕ → List (List ℕ) → Type 0
+AreCounted text parts =
+    ((is_short text ≡ true) × (parts ≡ before_any (numbers text)))
+    ⊎ ((p : Parts) × IsVersionWritten text p × (parts ≡ p.major ∷ p.minor ∷ p.patch ∷ p.pre))
 
--- digits whose value passes the limit
-abbrev pub is_past : List ℕ → Bool
-is_past run = is_numeral run && not (nat_lt (value run) (2 ^ 128))
+-- where the partial begins, which is at the end of the piece
+abbrev pub partial_place : Written Kind → ℕ
+partial_place piece = piece.at + (length piece.bytes - length (partial_text piece))
 
--- Of runs with one byte between each two, the first beginning at this place: where the first begins that passes the
--- limit. `stops` says that no run counts from the first sign for any number on.
-abbrev pub first_past : Bool → ℕ → List (List ℕ) → Option ℕ
-first_past stops at [] = None
-first_past stops at (run ∷ runs) =
-    if stops && is_any run then None else (if is_past run then Some at else first_past stops (at + length run + 1) runs)
+-- The piece is a construct, and the first numeral of it that is past the limit begins at this place of the range text.
+pub record IsPast (piece : Written Kind) (at : ℕ) : Type 0 where
+  pub construct : Construct
+  pub reads : ReadsAs piece construct
+  pub parts : List (List ℕ)
+  pub counted : AreCounted (partial_text piece) parts
+  pub first : first_past_part (partial_place piece) parts ≡ Some at
 
--- Where the first numeral begins that passes the limit, in the text of a partial that begins at this place: among one
--- to three numbers, or among the numbers and the pre-release of a version, whose build does not count.
-abbrev pub PastNumeral : ℕ → List ℕ → Option ℕ → Type 0
-PastNumeral at text answer =
-    ((is_short text ≡ true) × (answer ≡ first_past true at (numbers text)))
-    ⊎ ((is_short text ≡ false) × (((p : Parts) × IsWritten text p × (answer ≡ first_past false at (p.major ∷ p.minor ∷ p.patch ∷ p.pre)))
-    ⊎ (NotWritten text × (answer ≡ None))))
+-- each numeral of a partial is within 2^128-1
+abbrev pub PartialIsWithin : Partial → Type 0
+PartialIsWithin Any = Unit {0}
+PartialIsWithin (Major major) = major < 2 ^ 128
+PartialIsWithin (Minor major minor) = (major < 2 ^ 128) × (minor < 2 ^ 128)
+PartialIsWithin (Full version) = IsWithin version
 
--- the partial stands at the end of the piece's word
-abbrev pub IsPastNumeral : WrittenPiece → Option ℕ → Type 0
-IsPastNumeral piece answer = PastNumeral (piece.word_at + (length piece.word - length (partial_text piece))) (partial_text piece) answer
+-- ---- numerals that are raised
 
--- The first piece that is no construct begins at this place.
-pub record IsFirstSyntax (text : List ℕ) (at : ℕ) : Type 0 where
-  pub pieces : List (List WrittenPiece)
-  pub cut : IsCutInto 0 text pieces
-  pub first : IsFirst IsNoConstruct (flat pieces) (Some at)
+-- the last numeral of a partial of one or two
+abbrev pub last_numeral : Partial → Option ℕ
+last_numeral (Full version) = None
+last_numeral (Minor major minor) = Some minor
+last_numeral (Major major) = Some major
+last_numeral Any = None
 
--- Each piece is a construct, and the first numeral that passes the limit begins at this place.
-pub record IsFirstNumeral (text : List ℕ) (at : ℕ) : Type 0 where
-  pub pieces : List (List WrittenPiece)
-  pub cut : IsCutInto 0 text pieces
-  pub constructs : IsFirst IsNoConstruct (flat pieces) None
-  pub first : IsFirst IsPastNumeral (flat pieces) (Some at)
+-- `~` raises the second number of a full version
+abbrev pub raised_by_tilde : Partial → Option ℕ
+raised_by_tilde (Full version) = Some version.minor
+raised_by_tilde (Minor major minor) = Some minor
+raised_by_tilde (Major major) = Some major
+raised_by_tilde Any = None
 
--- what the reading of a text is refused for
-abbrev pub IsRefusedFor : List ℕ → RangeFault → Type 0
-IsRefusedFor text (Syntax at) = IsFirstSyntax text at
-IsRefusedFor text (Numeral at) = IsFirstNumeral text at
-IsRefusedFor text (NoEndpoint kind at) = ⊥
-IsRefusedFor text NoMemory = ⊥
+-- `^` raises the first numeral that is not 0, or the last where all are 0
+abbrev pub raised_by_caret : Partial → Option ℕ
+raised_by_caret (Full version) = Some (if version.major == 0 then (if version.minor == 0 then version.patch else version.minor) else version.major)
+raised_by_caret (Minor major minor) = Some (if major == 0 then minor else major)
+raised_by_caret (Major major) = Some major
+raised_by_caret Any = None
+
+-- the numeral that an operator raises by one in the partial, if any
+abbrev pub raised_numeral : Operator → Partial → Option ℕ
+raised_numeral Equal = last_numeral
+raised_numeral Greater = last_numeral
+raised_numeral GreaterEqual = λ _. None
+raised_numeral Less = λ _. None
+raised_numeral LessEqual = last_numeral
+raised_numeral Tilde = raised_by_tilde
+raised_numeral Caret = raised_by_caret
+
+-- one more than it is within the limit
+abbrev pub is_raisable : Option ℕ → Bool
+is_raisable None = true
+is_raisable (Some numeral) = nat_lt (numeral + 1) (2 ^ 128)
+
+-- what becomes of a construct, the same in each domain
+abbrev pub outcome : Construct → Outcome
+outcome c = if is_raisable (raised_numeral c.operator c.partial) then Spans else TooHigh

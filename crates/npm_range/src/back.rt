@@ -1,8 +1,9 @@
 ghost use Rattle.std.specs.Prelude.{◌≡◌, ◌++◌, OnOk, IfOk, codes, flat_map};
-ghost use Rattle.npm_range.specs.Back.{lower_text, upper_text, is_point, between_text, span_text, spans_text};
+ghost use Rattle.npm_range.specs.Back.{lower_text, upper_text, between_text, span_text, spans_text};
 
 use npm_scheme::{Npm, NpmVersion};
 use std::alloc::Global;
+use vx_range::is_point;
 use vx_scheme::{Cut, NoMemory, Scheme, Span, Text};
 
 fn push_lower(out: &mut Text, cut: &Cut<NpmVersion>) -> Result<(), NoMemory>
@@ -19,13 +20,6 @@ fn push_upper(out: &mut Text, cut: &Cut<NpmVersion>) -> Result<(), NoMemory>
     Npm::write(&cut.version, out)
 }
 
-/// Whether the cuts stand before and after one order class.
-fn is_point(lower: &Cut<NpmVersion>, upper: &Cut<NpmVersion>) -> bool
-    ensures { result ≡ is_point lower.now upper.now }
-{
-    !lower.after && upper.after && Npm::compare(&lower.version, &upper.version).is_eq()
-}
-
 fn push_between(
     out: &mut Text,
     lower: &Cut<NpmVersion>,
@@ -33,7 +27,7 @@ fn push_between(
 ) -> Result<(), NoMemory>
     ensures { OnOk result (out.new ≡ out.old ++ between_text lower.now upper.now) }
 {
-    if is_point(lower, upper) {
+    if is_point::<Npm>(lower, upper) {
         return Npm::write(&lower.version, out);
     }
     push_lower(out, lower)?;
@@ -62,11 +56,14 @@ fn push_others(out: &mut Text, spans: &[Span<NpmVersion>]) -> Result<(), NoMemor
     Ok(())
 }
 
+/// The room for a span's text, which two versions of usual length take.
+const USUAL_LENGTH: usize = 24;
+
 /// The range text of spans, the same in each domain.
-pub(crate) fn printed(alloc: Global, spans: &[Span<NpmVersion>]) -> Result<Text, NoMemory>
+pub(crate) fn text_of_spans(alloc: Global, spans: &[Span<NpmVersion>]) -> Result<Text, NoMemory>
     ensures { IfOk result (λ text. text ≡ spans_text spans.now) }
 {
-    let mut out = Text::new(alloc);
+    let mut out = Text::with_room(alloc, spans.len().saturating_mul(USUAL_LENGTH))?;
     if let [first, others @ ..] = spans {
         push_span(&mut out, first)?;
         push_others(&mut out, others)?;

@@ -1,5 +1,4 @@
 use npm_scheme::NpmVersion;
-use vx_scheme::List;
 
 /// An operator of npm's range language.
 #[derive(Debug, Clone, Copy, PartialEq, Eq)]
@@ -33,16 +32,11 @@ pub enum Partial {
     Full(NpmVersion),
 }
 
-/// An operator with its partial, and where it begins: a byte offset from 0 in the range text.
+/// An operator with its partial.
 #[derive(Debug, Drop)]
 pub struct Construct {
     /// How a version has to compare.
     pub operator: Operator,
     /// What it is compared with.
     pub partial: Partial,
-    /// Where the construct begins.
-    pub at: usize,
 }
-
-/// The constructs of each alternative, from left to right.
-pub type Constructs = List<List<Construct>>;

@@ -3,15 +3,16 @@
 
 mod back;
 mod construct;
+mod cutting;
+mod laws;
+mod making;
 mod partials;
-mod pieces;
 mod range;
 mod reading;
-mod refusals;
-mod spans;
 #[cfg(test)]
 mod tests;
-mod values;
 
-pub use construct::{Construct, Constructs, Operator, Partial};
-pub use range::{NpmRange, construct_is_its_spans};
+pub use construct::{Construct, Operator, Partial};
+pub use cutting::Kind;
+pub use laws::{construct_is_its_spans, npm_limits_agree, npm_one_answer, npm_raises_agree};
+pub use range::NpmRange;

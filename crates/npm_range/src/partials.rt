@@ -1,16 +1,21 @@
-ghost use Rattle.std.specs.Prelude.{◌≡◌, ◌==◌, ◌≤◌, ◌↔◌, length, IsTrue, MatchOption};
+ghost use Rattle.std.specs.Prelude.{◌≡◌, ◌==◌, ◌<◌, ◌+◌, ◌^◌, true, length, Some, IfOk, IfErr};
 ghost use Rattle.std.specs.List.{count_by, list_all, slice_split};
-ghost use Rattle.npm_scheme.specs.Spelling.{Parts};
-ghost use Rattle.npm_scheme.specs.Written.{IsWritten};
-ghost use Rattle.npm_range.specs.Pieces.{seen};
-ghost use Rattle.npm_range.specs.Partials.{is_any, is_number, is_short, IsOperator, HasOperator, without, partial_text, IsConstruct};
-ghost use Rattle.npm_range.specs.Forms.{NoOperator, HasNoOperator, HasPartialForm};
+ghost use Rattle.npm_scheme.specs.Version.{dot};
+ghost use Rattle.npm_scheme.specs.Spelling.{AreVersionParts, whole};
+ghost use Rattle.npm_scheme.specs.Written.{parts};
+ghost use Rattle.npm_range.specs.Reading.{is_any, is_number, is_short, numbers, values};
+ghost use Rattle.npm_range.specs.Steps.Numbers.{AreNumbers, values_in, past_of, past_in, LeadsTo, AnswersShort};
+ghost use Rattle.npm_range.specs.Steps.Partials.{AnswersWhole, AnswersPartial};
 
-use crate::construct::Operator;
-use crate::pieces::{Kind, Piece};
-use npm_scheme::{is_plain_numeral, take_apart};
+use crate::construct::Partial;
+use crate::making::release;
+use npm_scheme::{Written, is_plain_numeral, past_numeral, plain_version_of_parts, take_apart};
+use std::alloc::Global;
+use vx_range::PieceReading;
+use vx_scheme::{NoMemory, VersionFault};
+use vx_text::{NumeralFault, cut, numeral};
 
-pub(crate) fn is_any(text: &str) -> bool
+fn is_any(text: &str) -> bool
     ensures { result ≡ is_any text.now }
 {
     match text.as_bytes() {
@@ -26,101 +31,128 @@ fn is_number(text: &str) -> bool
 }
 
 fn all_numbers(text: &str) -> bool
-    ensures { result ≡ list_all is_number (slice_split (λ b. b == 46) text.now) }
+    ensures { result ≡ list_all is_number (slice_split (λ b. b == dot) text.now) }
 {
     text.split('.').all(|part| is_number(part))
 }
 
 fn dots(text: &str) -> usize
-    ensures { result ≡ count_by (λ b. b == 46) text.now }
+    ensures { result ≡ count_by (λ b. b == dot) text.now }
 {
     text.as_bytes().iter().filter(|byte| **byte == b'.').count()
 }
 
 /// Whether the text is one to three numbers.
-pub(crate) fn is_short(text: &str) -> bool
+fn is_short(text: &str) -> bool
     ensures { result ≡ is_short text.now }
 {
     all_numbers(text) && dots(text) < 3
 }
 
-fn is_whole(text: &str) -> bool
-    ensures { IsTrue result ↔ ((p : Parts) × IsWritten text.now p) }
+/// Numbers with dots between them.
+#[derive(Clone, Copy)]
+pub(crate) struct Numbers<'a> {
+    /// Their text.
+    pub(crate) text: &'a str,
+    /// Where it begins in the range text.
+    pub(crate) at: usize,
+}
+
+/// The first number of a text that begins at this place, and those behind it, unless any may stand for it. `Err` says
+/// where the first of the numbers begins, which is past the limit.
+fn first_number(text: &str, at: usize) -> Result<Option<(u128, Option<Numbers<'_>>)>, usize>
+    requires numbers { list_all is_number (numbers text.now) ≡ true }
+    requires place { at + length text.now < 2 ^ 64 }
+    ensures { LeadsTo (values text.now) (past_of at text.now) result }
 {
+    let (first, behind) = cut(text, '.');
+    if is_any(first) {
+        return Ok(None);
+    }
+    let number = match numeral(first) {
+        Ok(number) => number,
+        Err(NumeralFault::TooLarge) => return Err(at),
+        Err(NumeralFault::NotDigits) => unreachable!(),
+    };
+    match behind {
+        Some(text) => Ok(Some((
+            number,
+            Some(Numbers {
+                text,
+                at: at + first.len() + 1,
+            }),
+        ))),
+        None => Ok(Some((number, None))),
+    }
+}
+
+/// The same of numbers that may be left out.
+fn leading(numbers: Option<Numbers<'_>>) -> Result<Option<(u128, Option<Numbers<'_>>)>, usize>
+    requires { AreNumbers numbers }
+    ensures { LeadsTo (values_in numbers.entry) (past_in numbers.entry) result }
+{
+    match numbers {
+        Some(numbers) => first_number(numbers.text, numbers.at),
+        None => Ok(None),
+    }
+}
+
+/// The partial of one to three numbers. `Err` says where the first of them begins that is past the limit.
+fn short_partial(alloc: Global, text: &str, at: usize) -> Result<Partial, usize>
+    requires short { is_short text.now ≡ true }
+    requires place { at + length text.now < 2 ^ 64 }
+    ensures { AnswersShort at text.now result }
+{
+    let Some((major, behind)) = first_number(text, at)? else {
+        return Ok(Partial::Any);
+    };
+    let Some((minor, behind)) = leading(behind)? else {
+        return Ok(Partial::Major(major));
+    };
+    let Some((patch, _)) = leading(behind)? else {
+        return Ok(Partial::Minor(major, minor));
+    };
+    Ok(Partial::Full(release(alloc, major, minor, patch)))
+}
+
+/// The partial of a whole version, without its build.
+fn whole_partial(
+    alloc: Global,
+    written: &Written,
+    at: usize,
+) -> Result<PieceReading<Partial>, NoMemory>
+    requires form { AreVersionParts (parts written.now) }
+    requires place { at + length (whole (parts written.now)) < 2 ^ 64 }
+    ensures { IfOk result (AnswersWhole at (parts written.now)) }
+{
+    match plain_version_of_parts(alloc, written) {
+        Ok(version) => Ok(PieceReading::Construct(Partial::Full(version))),
+        Err(VersionFault::Numeral) => match past_numeral(written, at) {
+            Some(at) => Ok(PieceReading::Past(at)),
+            None => unreachable!(),
+        },
+        Err(VersionFault::NotAVersion) => unreachable!(),
+        Err(VersionFault::NoMemory) => Err(NoMemory),
+    }
+}
+
+/// The partial that a text stands for, which begins at this place: one to three numbers, or a whole version.
+pub(crate) fn read_partial(
+    alloc: Global,
+    text: &str,
+    at: usize,
+) -> Result<PieceReading<Partial>, NoMemory>
+    requires { at + length text.now < 2 ^ 64 }
+    ensures { IfOk result (AnswersPartial at text.now) }
+{
+    if is_short(text) {
+        return match short_partial(alloc, text, at) {
+            Ok(partial) => Ok(PieceReading::Construct(partial)),
+            Err(at) => Ok(PieceReading::Past(at)),
+        };
+    }
     match take_apart(text) {
-        Some(_) => true,
-        None => false,
-    }
-}
-
-fn has_form(text: &str) -> bool
-    ensures { IsTrue result ↔ HasPartialForm text.now }
-{
-    is_short(text) || is_whole(text)
-}
-
-fn is_partial(text: &[u8]) -> bool
-    ensures { IsTrue result ↔ HasPartialForm text.now }
-{
-    match str::from_utf8(text) {
-        Ok(text) => has_form(text),
-        Err(_) => false,
-    }
-}
-
-fn without(text: &[u8], sign: u8) -> &[u8]
-    ensures is { result.now ≡ without sign text.now }
-    ensures within { length result.now ≤ length text.now }
-{
-    match text {
-        [first, rest @ ..] if *first == sign => rest,
-        _ => text,
-    }
-}
-
-/// The partial in a piece's word, without its `v`.
-pub(crate) fn partial_text<'a>(piece: &Piece<'a>) -> &'a [u8]
-    ensures is { result.now ≡ partial_text (seen piece.now) }
-    ensures within { length result.now ≤ length piece.now.word.now }
-{
-    match piece.kind {
-        Kind::Plain => without(piece.word, b'v'),
-        Kind::Low | Kind::High => without(without(piece.word, b'='), b'v'),
-    }
-}
-
-fn operator(signs: &[u8]) -> Option<Operator>
-    ensures { MatchOption result (NoOperator signs.now) (IsOperator signs.now) }
-{
-    match signs {
-        [] | [b'='] => Some(Operator::Equal),
-        [b'<'] => Some(Operator::Less),
-        [b'<', b'='] => Some(Operator::LessEqual),
-        [b'>'] => Some(Operator::Greater),
-        [b'>', b'='] => Some(Operator::GreaterEqual),
-        [b'~'] | [b'~', b'>'] => Some(Operator::Tilde),
-        [b'^'] => Some(Operator::Caret),
-        _ => None,
-    }
-}
-
-/// The operator of a piece.
-pub(crate) fn operator_of(piece: &Piece) -> Option<Operator>
-    ensures { MatchOption result (HasNoOperator (seen piece.now)) (HasOperator (seen piece.now).kind (seen piece.now).signs) }
-{
-    match piece.kind {
-        Kind::Plain => operator(piece.signs),
-        Kind::Low => Some(Operator::GreaterEqual),
-        Kind::High => Some(Operator::LessEqual),
-    }
-}
-
-/// Whether the piece is a construct.
-pub(crate) fn is_construct(piece: &Piece) -> bool
-    ensures { IsTrue result ↔ IsConstruct (seen piece.now) }
-{
-    match operator_of(piece) {
-        Some(_) => is_partial(partial_text(piece)),
-        None => false,
+        Some(written) => whole_partial(alloc, &written, at),
+        None => Ok(PieceReading::NoConstruct),
     }
 }

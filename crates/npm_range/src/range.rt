@@ -1,18 +1,11 @@
-ghost use Rattle.std.specs.Prelude.{◌≡◌, ℕ};
-ghost use Rattle.vx_scheme.specs.declared.domain.Domain.TheVariants as domain_of;
-ghost use Rattle.vx_scheme.specs.Cuts.{in_spans};
-ghost use Rattle.npm_scheme.specs.Version.{Fields, IsVersion, IsRelease};
-ghost use Rattle.npm_scheme.specs.Order.{order_of};
-ghost use Rattle.npm_range.specs.declared.construct.Construct.{Construct};
-ghost use Rattle.npm_range.specs.Holds.{holds};
-ghost use Rattle.npm_range.specs.Spans.{made_spans};
-
-use crate::back::printed;
-use crate::reading::read;
-use crate::spans::made_bounds;
+use crate::back::text_of_spans;
+use crate::construct::Construct;
+use crate::cutting::{Kind, NpmPiece, cut_text};
+use crate::{making, reading};
 use npm_scheme::{Npm, NpmVersion};
-use std::alloc::Global;
+use std::alloc::{AllocError, Global};
 use std::cmp::Ordering;
+use vx_range::{Language, Making, Outcome, PieceReading, bounds_of_alternatives};
 use vx_scheme::{
     BackFault, Bounds, Domain, Native, NoMemory, RangeFault, Scheme, SchemeName, Spans, Text,
     VersionFault,
@@ -23,7 +16,7 @@ pub struct NpmRange;
 
 impl Scheme for NpmRange {
     ghost use Rattle.npm_scheme.specs.Order.{order_total};
-    ghost use Rattle.npm_scheme.specs.Laws.{npm_texts};
+    ghost use Rattle.npm_scheme.specs.Laws.Texts.{npm_texts};
 
     type Version = NpmVersion;
 
@@ -70,13 +63,68 @@ impl Scheme for NpmRange {
     }
 }
 
+impl Making for NpmRange {
+    ghost use Rattle.npm_range.specs.Refusals.{outcome};
+    ghost use Rattle.npm_range.specs.Holds.{holds};
+    ghost use Rattle.npm_range.specs.Spans.{made_spans};
+    ghost use Rattle.npm_range.specs.Laws.Tables.{npm_agrees};
+
+    type Construct = Construct;
+
+    ghost spans = { made_spans };
+
+    ghost outcome = { λ domain. outcome };
+
+    ghost holds = { holds };
+
+    ghost agrees = { npm_agrees };
+
+    fn push_spans(
+        alloc: Global,
+        construct: Construct,
+        domain: Domain,
+        marks: &mut u64,
+        out: &mut Spans<NpmVersion>,
+    ) -> Result<Outcome, NoMemory> {
+        making::push_spans(alloc, construct, domain, marks, out)
+    }
+}
+
+impl Language for NpmRange {
+    ghost use Rattle.npm_range.specs.Cutting.{IsCut};
+    ghost use Rattle.npm_range.specs.Reading.{ReadsAs};
+    ghost use Rattle.npm_range.specs.Refusals.{IsPast};
+    ghost use Rattle.npm_range.specs.Laws.Cuts.{npm_cuts};
+    ghost use Rattle.npm_range.specs.Laws.Pieces.{npm_pieces};
+
+    type Kind = Kind;
+
+    ghost IsCut = { IsCut };
+
+    ghost ReadsAs = { ReadsAs };
+
+    ghost IsPast = { IsPast };
+
+    ghost cuts = { npm_cuts };
+
+    ghost pieces = { npm_pieces };
+
+    fn cut_text(alloc: Global, text: &[u8]) -> Result<Vec<Vec<NpmPiece<'_>>>, AllocError> {
+        cut_text(alloc, text)
+    }
+
+    fn read_piece(alloc: Global, piece: &NpmPiece) -> Result<PieceReading<Construct>, NoMemory> {
+        reading::read_piece(alloc, piece)
+    }
+}
+
 impl Native for NpmRange {
     ghost use Rattle.std.specs.Prelude.{⊤};
     ghost use Rattle.vx_scheme.specs.declared.domain.Domain.TheVariants as domain_of;
     ghost use Rattle.npm_range.specs.Range.{IsRange, In, Makes, Refuses};
     ghost use Rattle.npm_range.specs.Back.{back};
-    ghost use Rattle.npm_range.specs.Laws.{npm_ranges};
-    ghost use Rattle.npm_range.specs.BackLaws.{npm_backs};
+    ghost use Rattle.npm_range.specs.Laws.Ranges.{npm_ranges};
+    ghost use Rattle.npm_range.specs.Laws.Backs.{npm_backs};
 
     ghost Offers = { λ _. ⊤ };
 
@@ -105,14 +153,7 @@ impl Native for NpmRange {
     }
 
     fn bounds(alloc: Global, text: &str, domain: Domain) -> Result<Bounds<NpmVersion>, RangeFault> {
-        let all = match read(alloc, text) {
-            Ok(all) => all,
-            Err(fault) => return Err(fault),
-        };
-        match made_bounds(alloc, all, domain) {
-            Ok(bounds) => Ok(bounds),
-            Err(fault) => Err(fault),
-        }
+        bounds_of_alternatives::<NpmRange>(alloc, text, domain)
     }
 
     fn unbounds(
@@ -120,13 +161,7 @@ impl Native for NpmRange {
         spans: &Spans<NpmVersion>,
         _domain: Domain,
     ) -> Result<Text, BackFault> {
-        let text = printed(alloc, spans.as_slice())?;
+        let text = text_of_spans(alloc, spans.as_slice())?;
         Ok(text)
     }
 }
-
-/// A construct holds of a version of a domain exactly where one of the spans that it makes there holds it.
-pub fn construct_is_its_spans()
-    ensures all { (c : Construct) (mark : ℕ) (v : Fields) → IsVersion v → in_spans order_of (made_spans domain_of.All mark c) v ≡ holds c v }
-    ensures releases { (c : Construct) (mark : ℕ) (v : Fields) → IsVersion v → IsRelease v → in_spans order_of (made_spans domain_of.Releases mark c) v ≡ holds c v }
-{}

@@ -1,40 +1,93 @@
-ghost use Rattle.std.specs.Prelude.{◌≡◌, ℕ, List, IfErr, IfOk};
-ghost use Rattle.vx_scheme.specs.Native.{Refused};
-ghost use Rattle.npm_range.specs.Reading.{Reads, IsWithinAll};
-ghost use Rattle.npm_range.specs.Refusals.{IsFirstSyntax, IsFirstNumeral, IsRefusedFor};
-ghost use Rattle.npm_range.specs.declared.construct.Construct.{Construct};
+ghost use Rattle.std.specs.Prelude.{◌≡◌, ◌≤◌, length, IfOk, IfSome, MatchOption};
+ghost use Rattle.vx_range.specs.Pieces.{seen, IsInPlace};
+ghost use Rattle.vx_range.specs.Reading.{AnswersPiece};
+ghost use Rattle.npm_range.specs.Reading.{IsOperator, HasOperator, without, partial_text, ReadsAs};
+ghost use Rattle.npm_range.specs.Refusals.{IsPast};
+ghost use Rattle.npm_range.specs.Steps.Partials.{NoOperator, HasNoOperator};
 
-use crate::construct::Constructs;
-use crate::pieces::cut_up;
-use crate::refusals::{first_numeral, first_syntax};
-use crate::values::all_constructs;
+use crate::construct::{Construct, Operator};
+use crate::cutting::{Kind, NpmPiece, Signs};
+use crate::partials::read_partial;
 use std::alloc::Global;
-use vx_scheme::RangeFault;
+use std::str;
+use vx_range::PieceReading;
+use vx_scheme::NoMemory;
+use vx_text::{Blanks, cut_run, past_run};
 
-/// The constructs of a range text. `Syntax` comes exactly where a piece is no construct, and names where the first such
-/// begins; `Numeral` exactly where there is none such and a numeral passes 2^128-1, and names where the first such
-/// begins.
-pub(crate) fn read(alloc: Global, text: &str) -> Result<Constructs, RangeFault>
-    ensures ok { IfOk result (λ all. Reads text.now all × IsWithinAll all) }
-    ensures err { IfErr result (Refused (IsRefusedFor text.now)) }
+/// The operator that signs write. It takes no memory.
+fn operator(signs: &[u8]) -> Option<Operator>
+    ensures { MatchOption result (NoOperator signs.now) (IsOperator signs.now) }
 {
-    let all = cut_up(alloc, text.as_bytes())?;
-    if let Some(at) = first_syntax(&all) {
-        return Err(RangeFault::Syntax(at));
+    match signs {
+        [] | [b'='] => Some(Operator::Equal),
+        [b'<'] => Some(Operator::Less),
+        [b'<', b'='] => Some(Operator::LessEqual),
+        [b'>'] => Some(Operator::Greater),
+        [b'>', b'='] => Some(Operator::GreaterEqual),
+        [b'~'] | [b'~', b'>'] => Some(Operator::Tilde),
+        [b'^'] => Some(Operator::Caret),
+        _ => None,
     }
-    if let Some(at) = first_numeral(&all) {
-        return Err(RangeFault::Numeral(at));
-    }
-    let constructs = all_constructs(alloc, &all)?;
-    Ok(constructs)
 }
 
-/// A text has one reading, or one first refusal, and none has both within the limits.
-pub(crate) fn one_answer()
-    ensures reads { (text : List ℕ) (a b : List (List Construct)) → Reads text a → Reads text b → a ≡ b }
-    ensures syntax { (text : List ℕ) (a b : ℕ) → IsFirstSyntax text a → IsFirstSyntax text b → a ≡ b }
-    ensures numeral { (text : List ℕ) (a b : ℕ) → IsFirstNumeral text a → IsFirstNumeral text b → a ≡ b }
-    ensures apart { (text : List ℕ) (a b : ℕ) → IsFirstSyntax text a → ¬ (IsFirstNumeral text b) }
-    ensures not_read { (text : List ℕ) (at : ℕ) (all : List (List Construct)) → IsFirstSyntax text at → ¬ (Reads text all) }
-    ensures not_within { (text : List ℕ) (at : ℕ) (all : List (List Construct)) → IsFirstNumeral text at → Reads text all → ¬ (IsWithinAll all) }
-{}
+/// The text without this byte at its front, where it begins with one.
+fn without(text: &[u8], sign: u8) -> &[u8]
+    ensures is { result.now ≡ without sign text.now }
+    ensures within { length result.now ≤ length text.now }
+{
+    match text {
+        [first, rest @ ..] if *first == sign => rest,
+        _ => text,
+    }
+}
+
+/// The operator of a piece, and the text of its partial. It takes no memory.
+fn operator_and_partial<'a>(piece: &NpmPiece<'a>) -> Option<(Operator, &'a [u8])>
+    ensures is { MatchOption result (HasNoOperator (seen piece.now))
+        (λ r. HasOperator (seen piece.now).kind (seen piece.now).bytes r.0 × (r.1.now ≡ partial_text (seen piece.now))) }
+    ensures within { IfSome result (λ r. length r.1.now ≤ length piece.now.bytes.now) }
+{
+    match piece.kind {
+        Kind::Plain => {
+            let (signs, behind) = cut_run::<Signs>(piece.bytes);
+            let word = past_run::<Blanks>(behind);
+            match operator(signs) {
+                Some(operator) => Some((operator, without(word, b'v'))),
+                None => None,
+            }
+        }
+        Kind::Low => {
+            let text = without(without(piece.bytes, b'='), b'v');
+            Some((Operator::GreaterEqual, text))
+        }
+        Kind::High => {
+            let text = without(without(piece.bytes, b'='), b'v');
+            Some((Operator::LessEqual, text))
+        }
+    }
+}
+
+/// What a piece is: a construct, one with a numeral past the limit, or none.
+pub(crate) fn read_piece(
+    alloc: Global,
+    piece: &NpmPiece,
+) -> Result<PieceReading<Construct>, NoMemory>
+    requires { IsInPlace (seen piece.now) }
+    ensures { IfOk result (AnswersPiece ReadsAs IsPast (seen piece.now)) }
+{
+    let Some((operator, bytes)) = operator_and_partial(piece) else {
+        return Ok(PieceReading::NoConstruct);
+    };
+    let Ok(text) = str::from_utf8(bytes) else {
+        return Ok(PieceReading::NoConstruct);
+    };
+    let at = piece.at + (piece.bytes.len() - bytes.len());
+    match read_partial(alloc, text, at)? {
+        PieceReading::Construct(partial) => Ok(PieceReading::Construct(Construct {
+            operator,
+            partial,
+        })),
+        PieceReading::Past(at) => Ok(PieceReading::Past(at)),
+        PieceReading::NoConstruct => Ok(PieceReading::NoConstruct),
+    }
+}

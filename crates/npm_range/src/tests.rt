@@ -1,28 +1,31 @@
 use crate::NpmRange;
-use crate::back::printed;
+use crate::back::text_of_spans;
 use crate::construct::{Operator, Partial};
-use crate::reading::read;
+use crate::cutting::cut_text;
+use crate::reading::read_piece;
 use std::alloc::Global;
 use std::test::Fail;
+use vx_range::PieceReading;
 use vx_scheme::{Domain, Native, RangeFault, Span, Spans, Text};
 
 /// How many alternatives a text has.
 fn alternatives(alloc: Global, text: &str) -> Result<usize, RangeFault> {
-    match read(alloc, text) {
-        Ok(all) => Ok(all.len()),
-        Err(fault) => Err(fault),
-    }
+    let bounds = NpmRange::bounds(alloc, text, Domain::All)?;
+    Ok(bounds.len())
 }
 
 /// The operator, the place and the numbers of the first construct.
 fn first(alloc: Global, text: &str) -> Option<(Operator, usize, u8, u128)> {
-    let Ok(all) = read(alloc, text) else {
+    let Ok(groups) = cut_text(alloc, text.as_bytes()) else {
         return None;
     };
-    let Some(constructs) = all.as_slice().first() else {
+    let Some(group) = groups.first() else {
         return None;
     };
-    let Some(construct) = constructs.as_slice().first() else {
+    let Some(piece) = group.first() else {
+        return None;
+    };
+    let Ok(PieceReading::Construct(construct)) = read_piece(alloc, piece) else {
         return None;
     };
     let (count, last) = match &construct.partial {
@@ -31,7 +34,7 @@ fn first(alloc: Global, text: &str) -> Option<(Operator, usize, u8, u128)> {
         Partial::Minor(_, minor) => (2, *minor),
         Partial::Full(version) => (3, version.patch),
     };
-    Some((construct.operator, construct.at, count, last))
+    Some((construct.operator, piece.at, count, last))
 }
 
 #[test]
@@ -104,7 +107,7 @@ fn first_printed(alloc: Global, text: &str) -> Result<Text, Fail> {
     let Some(spans) = terms.as_slice().first() else {
         return Ok(Text::new(alloc));
     };
-    Ok(printed(alloc, spans.as_slice())?)
+    Ok(text_of_spans(alloc, spans.as_slice())?)
 }
 
 #[test]

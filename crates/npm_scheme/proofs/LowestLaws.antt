@@ -11,7 +11,8 @@ use Rattle.vx_spec.specs.Rows.{rows_cmp}
 use Rattle.vx_scheme.specs.Cuts.{stands_below}
 use Rattle.vx_scheme.specs.declared.ident.Ident.{Ident}
 use Rattle.vx_scheme.specs.declared.ident.Ident.TheVariants.{Number, Word}
-use Rattle.npm_scheme.specs.Order.{entry, entry_cmp, pre_key, order_of, order_total}
+use Rattle.vx_order.specs.Idents.{entry, entry_cmp}
+use Rattle.npm_scheme.specs.Order.{pre_rule, pre_key, order_of, order_total}
 use Rattle.npm_scheme.specs.Version.{Fields, lowest_of, release_of}
 
 -- the three numbers of the version are below M, m, p, place by place from the left
@@ -71,7 +72,7 @@ after_cut Equal = refl
 after_cut Greater = refl
 
 -- nothing is below the end
-not_below_end : (pre : List Ident) → is_lt (rows_cmp entry_cmp [] (map entry pre) []) ≡ false
+not_below_end : (pre : List Ident) → is_lt (rows_cmp entry_cmp [] (map (entry pre_rule) pre) []) ≡ false
 not_below_end [] = refl
 not_below_end (Number n ∷ pre) = refl
 not_below_end (Word w ∷ pre) = refl

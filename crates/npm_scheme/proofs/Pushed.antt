@@ -5,17 +5,19 @@ use Rattle.std.proofs.lemmas.List.{take_more, map_push, length-map, length-take-
 use Rattle.std.proofs.lemmas.Bool.{ne_eqb}
 use Rattle.vx_scheme.specs.declared.ident.Ident.{Ident}
 use Rattle.npm_scheme.specs.Spelling.{tail}
-use Rattle.npm_scheme.specs.Writing.{identifier_text, sign_before}
+use Rattle.npm_scheme.specs.Version.{dot, hyphen}
+use Rattle.npm_scheme.specs.Writing.{identifier_text}
+use Rattle.npm_scheme.specs.Steps.Begun.{sign_before}
 
 -- a text more at the end of joined texts
-join_push : (x : List ℕ) (xs : List (List ℕ)) (y : List ℕ) → join_with_byte 46 (x ∷ (xs ++ y ∷ [])) ≡ join_with_byte 46 (x ∷ xs) ++ 46 ∷ y
+join_push : (x : List ℕ) (xs : List (List ℕ)) (y : List ℕ) → join_with_byte dot (x ∷ (xs ++ y ∷ [])) ≡ join_with_byte dot (x ∷ xs) ++ dot ∷ y
 join_push x [] y = refl
-join_push x (w ∷ ws) y = ap (λ (r : List ℕ). x ++ 46 ∷ r) (join_push w ws y) ∙ sym (append_assoc x (46 ∷ join_with_byte 46 (w ∷ ws)) (46 ∷ y))
+join_push x (w ∷ ws) y = ap (λ (r : List ℕ). x ++ dot ∷ r) (join_push w ws y) ∙ sym (append_assoc x (dot ∷ join_with_byte dot (w ∷ ws)) (dot ∷ y))
 
 -- a text more at the end of a pre-release
-tail_push : (xs : List (List ℕ)) (y : List ℕ) → tail 45 (xs ++ y ∷ []) ≡ tail 45 xs ++ sign_before (length xs) ∷ y
+tail_push : (xs : List (List ℕ)) (y : List ℕ) → tail hyphen (xs ++ y ∷ []) ≡ tail hyphen xs ++ sign_before (length xs) ∷ y
 tail_push [] y = refl
-tail_push (x ∷ xs) y = rw (ne_eqb (suc (length xs)) 0 (omega arith)) (ap (λ (r : List ℕ). 45 ∷ r) (join_push x xs y))
+tail_push (x ∷ xs) y = rw (ne_eqb (suc (length xs)) 0 (omega arith)) (ap (λ (r : List ℕ). hyphen ∷ r) (join_push x xs y))
 
 -- the texts of identifiers
 abbrev texts : List Ident → List (List ℕ)
@@ -23,9 +25,9 @@ texts pre = map identifier_text pre
 
 -- the identifier at a place is appended behind its sign
 pub pushed : (start out out' out'' : List ℕ) (pre : List Ident) (i : ℕ) (x : Ident) → i < length pre → x ≡ get_or pre i x
-    → out ≡ start ++ tail 45 (map identifier_text (take i pre)) → out' ≡ out ++ sign_before i ∷ []
+    → out ≡ start ++ tail hyphen (map identifier_text (take i pre)) → out' ≡ out ++ sign_before i ∷ []
     → out'' ≡ out' ++ identifier_text x
-    → out'' ≡ start ++ tail 45 (map identifier_text (take (i + 1) pre))
+    → out'' ≡ start ++ tail hyphen (map identifier_text (take (i + 1) pre))
 pushed start out out' out'' pre i x l at before one two =
     let text = identifier_text x in
     let more : texts (take (i + 1) pre) ≡ texts (take i pre) ++ text ∷ [] =
@@ -33,4 +35,4 @@ pushed start out out' out'' pre i x l at before one two =
     ∙ map_push identifier_text (take i pre) x in
     let size : length (texts (take i pre)) ≡ i =
     length-map (take i pre) identifier_text ∙ length-take-le i pre (omega arith) in
-    rw (more, tail_push (texts (take i pre)) text, size, two, one, before) (append_assoc (start ++ tail 45 (texts (take i pre))) (sign_before i ∷ []) text ∙ append_assoc start (tail 45 (texts (take i pre))) (sign_before i ∷ text))
+    rw (more, tail_push (texts (take i pre)) text, size, two, one, before) (append_assoc (start ++ tail hyphen (texts (take i pre))) (sign_before i ∷ []) text ∙ append_assoc start (tail hyphen (texts (take i pre))) (sign_before i ∷ text))

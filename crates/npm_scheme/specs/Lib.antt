@@ -3,6 +3,6 @@ pub mod Order
 pub mod Spelling
 pub mod Writing
 pub mod Written
-pub mod Values
-pub mod Unique
+pub mod Past
 pub mod Laws
+pub mod Steps

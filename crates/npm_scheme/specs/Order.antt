@@ -1,32 +1,28 @@
 -- Precedence after Semantic Versioning 2.0, item 11: by the first place at which the keys of two versions differ.
-use Rattle.std.specs.Prelude.{ℕ, List, [], ◌∷◌, map}
-use Rattle.std.specs.Cmp.{IsTotalOrder, nat_cmp_total, on_total}
-use Rattle.std.specs.Cmp.Lexicographic.{slice_cmp}
-use Rattle.std.specs.Ordering.{nat_cmp}
+use Rattle.std.specs.Prelude.{ℕ, List, [], ◌∷◌}
+use Rattle.std.specs.Cmp.{IsTotalOrder, on_total}
 use Rattle.std.specs.declared.cmp.Ordering.{Ordering}
-use Rattle.std.proofs.lemmas.Cmp.{lists_total}
 use Rattle.vx_spec.specs.Places.{ComparesAs, endless}
 use Rattle.vx_spec.specs.Rows.{rows_cmp}
 use Rattle.vx_spec.proofs.RowLaws.{rows_total}
 use Rattle.vx_scheme.specs.declared.ident.Ident.{Ident}
-use Rattle.vx_scheme.specs.declared.ident.Ident.TheVariants.{Number, Word}
+use Rattle.vx_order.specs.Idents.{entry_cmp, idents_key}
+use Rattle.vx_order.proofs.IdentLaws.{entries_total}
+use Rattle.vx_order.specs.declared.idents.IdentRule.{IdentRule}
+use Rattle.vx_order.specs.declared.idents.NumberPlace.TheVariants.{BelowWords}
+use Rattle.vx_order.specs.declared.idents.WordOrder.TheVariants.{Exact}
+use Rattle.vx_order.specs.declared.idents.EmptyPlace.TheVariants.{Highest}
 use Rattle.npm_scheme.specs.Version.{Fields}
 
--- an entry of a key is a list of numbers; entries compare number by number, and the empty one, the end, is lowest
-abbrev pub entry_cmp : List ℕ → List ℕ → Ordering
-entry_cmp = slice_cmp nat_cmp
+-- item 11.4: numeric identifiers go by value and are below the others, which go by their bytes; item 11.3: no
+-- pre-release stands above every pre-release
+abbrev pub pre_rule : IdentRule
+pre_rule = record { numbers = BelowWords; words = Exact; empty = Highest }
 
--- item 11.4: numeric identifiers are below the others; numbers go by value, words by their bytes
-abbrev pub entry : Ident → List ℕ
-entry (Number n) = 1 ∷ n ∷ []
-entry (Word w) = 2 ∷ w
-
--- item 11.3: no pre-release stands above every pre-release
 abbrev pub pre_key : List Ident → List (List ℕ)
-pre_key [] = (3 ∷ []) ∷ []
-pre_key (ident ∷ pre) = entry ident ∷ map entry pre
+pre_key = idents_key pre_rule
 
--- item 11.2 and 11.4: the three numbers, then the pre-release from left to right; the build counts for nothing
+-- items 11.2 and 11.4: the three numbers, then the pre-release from left to right; the build counts for nothing
 abbrev pub key : Fields → List (List ℕ)
 key v = (v.major ∷ []) ∷ (v.minor ∷ []) ∷ (v.patch ∷ []) ∷ pre_key v.pre
 
@@ -40,4 +36,4 @@ abbrev pub AnswersKeys : Fields → Fields → Ordering → Type 0
 AnswersKeys a b answer = ComparesAs entry_cmp (endless [] (key a)) (endless [] (key b)) answer
 
 pub order_total : IsTotalOrder order_of
-order_total = on_total key (rows_total entry_cmp (lists_total nat_cmp_total) [])
+order_total = on_total {J = List (List ℕ)} key (rows_total entry_cmp entries_total [])

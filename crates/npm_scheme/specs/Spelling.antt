@@ -1,11 +1,11 @@
 -- The text of a version after the grammar of Semantic Versioning 2.0: the text is its parts, joined by their signs;
--- each part has its form; and the version has their values. '.' is 46, '-' is 45, '+' is 43 and '0' is 48.
+-- each part has its form; and the version has their values.
 use Rattle.std.specs.Prelude.{◌≡◌, ℕ, ◌&&◌, ◌==◌, not, nat_lt, Bool, true, List, [], ◌∷◌, ◌++◌, length, map, slice_index, if◌then◌else◌}
 use Rattle.std.specs.List.{list_all, join_with_byte}
 use Rattle.vx_spec.specs.Numerals.{is_numeral, value}
 use Rattle.vx_scheme.specs.declared.ident.Ident.{Ident}
 use Rattle.vx_scheme.specs.declared.ident.Ident.TheVariants.{Number, Word}
-use Rattle.npm_scheme.specs.Version.{Fields, is_build_identifier}
+use Rattle.npm_scheme.specs.Version.{Fields, dot, hyphen, is_build_identifier}
 
 -- the parts of a version's text; no identifiers where the pre-release or the build is left out
 pub record Parts : Type 0 where
@@ -15,22 +15,30 @@ pub record Parts : Type 0 where
   pub pre : List (List ℕ)
   pub build : List (List ℕ)
 
+-- the byte '+'
+abbrev pub plus : ℕ
+plus = 43
+
+-- the byte '0'
+abbrev pub zero_digit : ℕ
+zero_digit = 48
+
 -- items 9 and 10: identifiers joined by '.', behind their mark, where there are any
 abbrev pub tail : ℕ → List (List ℕ) → List ℕ
 tail mark [] = []
-tail mark (first ∷ more) = mark ∷ join_with_byte 46 (first ∷ more)
+tail mark (first ∷ more) = mark ∷ join_with_byte dot (first ∷ more)
 
 -- item 2: three numerals joined by '.'
 abbrev pub core : List ℕ → List ℕ → List ℕ → List ℕ
-core major minor patch = major ++ (46 ∷ (minor ++ (46 ∷ patch)))
+core major minor patch = major ++ (dot ∷ (minor ++ (dot ∷ patch)))
 
 -- the whole text: the version core, '-' and the pre-release, '+' and the build
 abbrev pub whole : Parts → List ℕ
-whole p = core p.major p.minor p.patch ++ tail 45 p.pre ++ tail 43 p.build
+whole p = core p.major p.minor p.patch ++ tail hyphen p.pre ++ tail plus p.build
 
 -- a zero, and something behind it
 abbrev pub has_leading_zero : List ℕ → Bool
-has_leading_zero text = (slice_index text 0 == 48) && nat_lt 1 (length text)
+has_leading_zero text = (slice_index text 0 == zero_digit) && nat_lt 1 (length text)
 
 -- items 2 and 9, the grammar's numeric identifier: digits without leading zeros
 abbrev pub is_plain_numeral : List ℕ → Bool
@@ -41,7 +49,7 @@ abbrev pub is_pre_identifier : List ℕ → Bool
 is_pre_identifier text = is_build_identifier text && not (is_numeral text && has_leading_zero text)
 
 -- each part has the form that the grammar names for it
-pub record HasForm (p : Parts) : Type 0 where
+pub record AreVersionParts (p : Parts) : Type 0 where
   pub major : is_plain_numeral p.major ≡ true
   pub minor : is_plain_numeral p.minor ≡ true
   pub patch : is_plain_numeral p.patch ≡ true
@@ -54,11 +62,11 @@ identifier_of text = if is_numeral text then Number (value text) else Word text
 
 -- the version that the parts stand for
 abbrev pub version_of : Parts → Fields
-version_of p = record { major = value p.major; minor = value p.minor; patch = value p.patch; pre = map identifier_of p.pre; build = join_with_byte 46 p.build }
+version_of p = record { major = value p.major; minor = value p.minor; patch = value p.patch; pre = map identifier_of p.pre; build = join_with_byte dot p.build }
 
 -- The text spells the version, with numerals of any length.
 pub record Spells (text : List ℕ) (v : Fields) : Type 0 where
   pub parts : Parts
   pub joined : text ≡ whole parts
-  pub form : HasForm parts
+  pub form : AreVersionParts parts
   pub values : v ≡ version_of parts

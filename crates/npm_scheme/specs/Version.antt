@@ -15,9 +15,17 @@ pub record Fields : Type 0 where
   pub pre : List Ident
   pub build : List ℕ
 
--- items 9 and 10: identifiers hold only ASCII letters, digits and '-', which is 45
+-- the byte '.'
+abbrev pub dot : ℕ
+dot = 46
+
+-- the byte '-'
+abbrev pub hyphen : ℕ
+hyphen = 45
+
+-- items 9 and 10: identifiers hold only ASCII letters, digits and '-'
 abbrev pub is_identifier_byte : ℕ → Bool
-is_identifier_byte b = is_ascii_alphanumeric b || (b == 45)
+is_identifier_byte b = is_ascii_alphanumeric b || (b == hyphen)
 
 -- the grammar's build identifier: one such byte or more
 abbrev pub is_build_identifier : List ℕ → Bool
@@ -28,10 +36,10 @@ abbrev pub is_ident : Ident → Bool
 is_ident (Number n) = true
 is_ident (Word w) = is_build_identifier w && not (is_numeral w)
 
--- the identifiers of a build: none where it is left out, else those between its dots ('.' is 46)
+-- the identifiers of a build: none where it is left out, else those between its dots
 abbrev pub build_pieces : List ℕ → List (List ℕ)
 build_pieces [] = []
-build_pieces (byte ∷ build) = slice_split (λ b. b == 46) (byte ∷ build)
+build_pieces (byte ∷ build) = slice_split (λ b. b == dot) (byte ∷ build)
 
 -- The fields are a version's: the pre-release and the build are made of identifiers.
 pub record IsVersion (v : Fields) : Type 0 where
@@ -39,13 +47,13 @@ pub record IsVersion (v : Fields) : Type 0 where
   pub build : list_all is_build_identifier (build_pieces v.build) ≡ true
 
 -- an identifier's number is within the limit of 128 bits
-abbrev pub IdentFits : Ident → Type 0
-IdentFits (Number n) = n < 2 ^ 128
-IdentFits (Word w) = Unit {0}
+abbrev pub IdentIsWithin : Ident → Type 0
+IdentIsWithin (Number n) = n < 2 ^ 128
+IdentIsWithin (Word w) = Unit {0}
 
 -- each number of the version is within the limit of 128 bits
-abbrev pub Fits : Fields → Type 0
-Fits v = (v.major < 2 ^ 128) × (v.minor < 2 ^ 128) × (v.patch < 2 ^ 128) × AllByRecursion IdentFits v.pre
+abbrev pub IsWithin : Fields → Type 0
+IsWithin v = (v.major < 2 ^ 128) × (v.minor < 2 ^ 128) × (v.patch < 2 ^ 128) × AllByRecursion IdentIsWithin v.pre
 
 -- item 9: a version without pre-release identifiers is a release
 abbrev pub IsRelease : Fields → Type 0
@@ -59,6 +67,10 @@ release_of major minor patch = record { major = major; minor = minor; patch = pa
 abbrev pub lowest_of : ℕ → ℕ → ℕ → Fields
 lowest_of major minor patch = record { major = major; minor = minor; patch = patch; pre = Number 0 ∷ []; build = [] }
 
+-- the version with another build
+abbrev pub with_build : List ℕ → Fields → Fields
+with_build build v = record { major = v.major; minor = v.minor; patch = v.patch; pre = v.pre; build = build }
+
 -- the version without its build
 abbrev pub without_build : Fields → Fields
-without_build v = record { major = v.major; minor = v.minor; patch = v.patch; pre = v.pre; build = [] }
+without_build = with_build []

@@ -2,6 +2,7 @@
 #![tactic(auto)]
 
 mod order;
+mod past;
 mod scheme;
 mod spelling;
 #[cfg(test)]
@@ -10,6 +11,9 @@ mod version;
 mod writing;
 
 pub use order::order_by_first_difference;
+pub use past::{limits_agree, past_numeral};
 pub use scheme::Npm;
-pub use spelling::{Written, is_plain_numeral, take_apart, valued};
+pub use spelling::{
+    Written, is_plain_numeral, plain_version_of_parts, take_apart, version_of_parts,
+};
 pub use version::{NpmVersion, lowest};

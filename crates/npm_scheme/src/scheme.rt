@@ -12,11 +12,11 @@ pub struct Npm;
 impl Scheme for Npm {
     ghost use Rattle.std.specs.Prelude.{◌≡◌, []};
     ghost use Rattle.vx_scheme.specs.declared.name.SchemeName.TheVariants as name_of;
-    ghost use Rattle.npm_scheme.specs.Version.{Fits, IsVersion, IsRelease};
+    ghost use Rattle.npm_scheme.specs.Version.{IsVersion, IsWithin, IsRelease};
     ghost use Rattle.npm_scheme.specs.Spelling.{Spells};
     ghost use Rattle.npm_scheme.specs.Writing.{normal};
     ghost use Rattle.npm_scheme.specs.Order.{order_of, order_total, AnswersKeys};
-    ghost use Rattle.npm_scheme.specs.Laws.{npm_texts};
+    ghost use Rattle.npm_scheme.specs.Laws.Texts.{npm_texts};
 
     type Version = NpmVersion;
 
@@ -24,7 +24,7 @@ impl Scheme for Npm {
 
     ghost IsVersion = { IsVersion };
 
-    ghost IsWithin = { Fits };
+    ghost IsWithin = { IsWithin };
 
     ghost order = { order_of };
 
@@ -57,8 +57,8 @@ impl Scheme for Npm {
     /// How two versions compare: by the first place at which their keys differ.
     fn compare(a: &NpmVersion, b: &NpmVersion) -> Ordering
         ensures order { result ≡ order_of a.now b.now }
-        ensures left { IsVersion a.now × Fits a.now }
-        ensures right { IsVersion b.now × Fits b.now }
+        ensures left { IsVersion a.now × IsWithin a.now }
+        ensures right { IsVersion b.now × IsWithin b.now }
         ensures places { AnswersKeys a.now b.now result }
     {
         let (_left, _right) = (a.major, b.major);

@@ -1,17 +1,17 @@
-ghost use Rattle.std.specs.Prelude.{◌≡◌, ◌==◌, ◌↔◌, ◌<◌, ◌^◌, ℕ, List, MatchOption, IsTrue, IfOk, IfErr, map};
+ghost use Rattle.std.specs.Prelude.{◌≡◌, ◌==◌, ◌↔◌, true, List, MatchOption, IsTrue, IfOk, IfErr, map};
 ghost use Rattle.std.specs.Option.{option_copied};
 ghost use Rattle.std.specs.List.{AllByRecursion, join_with_byte, list_all, slice_split};
-ghost use Rattle.vx_spec.specs.Numerals.{is_numeral, value};
 ghost use Rattle.vx_scheme.specs.Scheme.{Refuses};
-ghost use Rattle.npm_scheme.specs.Version.{IdentFits, Fits, is_identifier_byte, is_build_identifier};
-ghost use Rattle.npm_scheme.specs.Spelling.{HasForm, identifier_of, version_of, Spells, has_leading_zero, is_plain_numeral, is_pre_identifier};
-ghost use Rattle.npm_scheme.specs.Values.{Gives};
-ghost use Rattle.npm_scheme.specs.Written.{pieces, parts, IsDotted, NotDotted, IsWritten, NotWritten};
+ghost use Rattle.vx_scheme.specs.Values.{Gives};
+ghost use Rattle.npm_scheme.specs.Version.{IdentIsWithin, IsWithin, build_pieces, dot, is_identifier_byte, is_build_identifier, with_build, without_build};
+ghost use Rattle.npm_scheme.specs.Spelling.{AreVersionParts, identifier_of, version_of, Spells, has_leading_zero, is_plain_numeral, is_pre_identifier};
+ghost use Rattle.npm_scheme.specs.Written.{pieces, parts, IsVersionWritten, NoVersionWritten};
+ghost use Rattle.npm_scheme.specs.Steps.Dotted.{IsDotted, NotDotted};
 
 use crate::version::NpmVersion;
 use std::alloc::Global;
 use vx_scheme::{Ident, Idents, NoMemory, Text, VersionFault};
-use vx_text::{cut, is_numeral, numeral, parts};
+use vx_text::{cut, is_numeral, numeral_of};
 
 /// The parts of a version's text, as they are written.
 #[derive(Debug, Clone, Copy)]
@@ -31,19 +31,19 @@ pub struct Written<'a> {
 /// The version that the text spells. The forms of the parts are tested before a value is made, so that `NotAVersion`
 /// comes before `Numeral`.
 pub(crate) fn read(alloc: Global, text: &str) -> Result<NpmVersion, VersionFault>
-    ensures ok { IfOk result (λ v. Spells text.now v × Fits v) }
-    ensures err { IfErr result (Refuses Spells Fits text.now) }
+    ensures ok { IfOk result (λ v. Spells text.now v × IsWithin v) }
+    ensures err { IfErr result (Refuses Spells IsWithin text.now) }
 {
     let Some(written) = take_apart(text) else {
         return Err(VersionFault::NotAVersion);
     };
-    valued(alloc, &written)
+    version_of_parts(alloc, &written)
 }
 
 /// The parts of a version's text, each of which has its form; `None` exactly where the text has no such parts. It
 /// takes no memory.
 pub fn take_apart(text: &str) -> Option<Written<'_>>
-    ensures { MatchOption result (NotWritten text.now) (λ w. IsWritten text.now (parts w)) }
+    ensures { MatchOption result (NoVersionWritten text.now) (λ w. IsVersionWritten text.now (parts w)) }
 {
     let (rest, build) = cut(text, '+');
     let (core, pre) = cut(rest, '-');
@@ -80,7 +80,7 @@ fn dotted(text: &str) -> Option<(&str, &str, &str)>
 }
 
 fn has_form(written: &Written) -> bool
-    ensures { IsTrue result ↔ HasForm (parts written.now) }
+    ensures { IsTrue result ↔ AreVersionParts (parts written.now) }
 {
     is_plain_numeral(written.major)
         && is_plain_numeral(written.minor)
@@ -113,7 +113,7 @@ fn is_pre(text: Option<&str>) -> bool
 }
 
 fn all_pre(text: &str) -> bool
-    ensures { result ≡ list_all is_pre_identifier (slice_split (λ b. b == 46) text.now) }
+    ensures { result ≡ list_all is_pre_identifier (slice_split (λ b. b == dot) text.now) }
 {
     text.split('.').all(|part| is_pre_identifier(part))
 }
@@ -134,7 +134,7 @@ fn is_build(text: Option<&str>) -> bool
 }
 
 fn all_build(text: &str) -> bool
-    ensures { result ≡ list_all is_build_identifier (slice_split (λ b. b == 46) text.now) }
+    ensures { result ≡ list_all is_build_identifier (slice_split (λ b. b == dot) text.now) }
 {
     text.split('.').all(|part| is_build_identifier(part))
 }
@@ -155,15 +155,32 @@ fn has_identifier_bytes(text: &str) -> bool
 
 /// The version that the parts stand for. `Numeral` comes exactly where one of their numerals passes 2^128-1, unless
 /// memory ends before.
-pub fn valued(alloc: Global, written: &Written) -> Result<NpmVersion, VersionFault>
-    requires { HasForm (parts written.now) }
-    ensures { Gives Fits result (version_of (parts written.now)) }
+pub fn version_of_parts(alloc: Global, written: &Written) -> Result<NpmVersion, VersionFault>
+    requires { AreVersionParts (parts written.now) }
+    ensures { Gives IsWithin result (version_of (parts written.now)) }
 {
-    let major = number(written.major)?;
-    let minor = number(written.minor)?;
-    let patch = number(written.patch)?;
-    let pre = identifiers(alloc, written.pre)?;
     let build = build_text(alloc, written.build)?;
+    version_with(alloc, written, build)
+}
+
+/// The version that the parts stand for, without its build. `Numeral` comes exactly where one of their numerals passes
+/// 2^128-1, unless memory ends before.
+pub fn plain_version_of_parts(alloc: Global, written: &Written) -> Result<NpmVersion, VersionFault>
+    requires { AreVersionParts (parts written.now) }
+    ensures { Gives IsWithin result (without_build (version_of (parts written.now))) }
+{
+    version_with(alloc, written, Text::new(alloc))
+}
+
+fn version_with(alloc: Global, written: &Written, build: Text) -> Result<NpmVersion, VersionFault>
+    requires form { AreVersionParts (parts written.now) }
+    requires build { list_all is_build_identifier (build_pieces build) ≡ true }
+    ensures { Gives IsWithin result (with_build build (version_of (parts written.now))) }
+{
+    let major = numeral_of(written.major)?;
+    let minor = numeral_of(written.minor)?;
+    let patch = numeral_of(written.patch)?;
+    let pre = identifiers(alloc, written.pre)?;
     Ok(NpmVersion {
         major,
         minor,
@@ -173,64 +190,47 @@ pub fn valued(alloc: Global, written: &Written) -> Result<NpmVersion, VersionFau
     })
 }
 
-fn number(text: &str) -> Result<u128, VersionFault>
-    requires { IsTrue (is_numeral text.now) }
-    ensures { Gives (λ n. n < 2 ^ 128) result (value text.now) }
-{
-    match numeral(text) {
-        Ok(number) => Ok(number),
-        Err(_) => Err(VersionFault::Numeral),
-    }
-}
-
 fn identifiers(alloc: Global, text: Option<&str>) -> Result<Idents, VersionFault>
-    ensures { Gives (AllByRecursion IdentFits) result (map identifier_of (pieces (option_copied text.entry))) }
+    ensures { Gives (AllByRecursion IdentIsWithin) result (map identifier_of (pieces (option_copied text.entry))) }
 {
     match text {
-        Some(text) => {
-            let pieces = parts(alloc, text, '.')?;
-            identifiers_of(alloc, &pieces)
-        }
+        Some(text) => identifiers_of(alloc, text),
         None => Ok(Idents::new(alloc)),
     }
 }
 
-fn identifiers_of(alloc: Global, pieces: &[&str]) -> Result<Idents, VersionFault>
-    ensures { Gives (AllByRecursion IdentFits) result (map identifier_of (map (λ piece. piece.now) pieces.now)) }
+// The identifiers between the dots, in a list with room for no more.
+fn identifiers_of(alloc: Global, text: &str) -> Result<Idents, VersionFault>
+    ensures { Gives (AllByRecursion IdentIsWithin) result (map identifier_of (slice_split (λ b. b == dot) text.now)) }
 {
-    let mut all = Idents::new(alloc);
-    for piece in pieces {
+    let mut all = Idents::with_room(alloc, text.split('.').count())?;
+    let mut rest = Some(text);
+    'pieces: while let Some(more) = rest {
+        let (piece, behind) = cut(more, '.');
         let next = identifier(alloc, piece)?;
         all.push(next)?;
+        rest = behind;
     }
     Ok(all)
 }
 
 fn identifier(alloc: Global, text: &str) -> Result<Ident, VersionFault>
-    ensures { Gives IdentFits result (identifier_of text.now) }
+    ensures { Gives IdentIsWithin result (identifier_of text.now) }
 {
     if is_numeral(text) {
-        let number = number(text)?;
+        let number = numeral_of(text)?;
         Ok(Ident::Number(number))
     } else {
-        let word = word(alloc, text)?;
+        let word = Text::copy_of(alloc, text)?;
         Ok(Ident::Word(word))
     }
 }
 
 fn build_text(alloc: Global, text: Option<&str>) -> Result<Text, NoMemory>
-    ensures { IfOk result (λ s. s ≡ join_with_byte 46 (pieces (option_copied text.entry))) }
+    ensures { IfOk result (λ s. s ≡ join_with_byte dot (pieces (option_copied text.entry))) }
 {
     match text {
-        Some(text) => word(alloc, text),
+        Some(text) => Text::copy_of(alloc, text),
         None => Ok(Text::new(alloc)),
     }
-}
-
-fn word(alloc: Global, text: &str) -> Result<Text, NoMemory>
-    ensures { IfOk result (λ word. word ≡ text.now) }
-{
-    let mut word = Text::new(alloc);
-    word.push_str(text)?;
-    Ok(word)
 }

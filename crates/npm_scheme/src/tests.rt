@@ -1,4 +1,7 @@
-use crate::{Npm, is_plain_numeral, lowest, take_apart, valued};
+use crate::{
+    Npm, is_plain_numeral, lowest, past_numeral, plain_version_of_parts, take_apart,
+    version_of_parts,
+};
 use std::alloc::Global;
 use std::cmp::Ordering;
 use std::test::Fail;
@@ -131,10 +134,33 @@ fn makes_and_copies(rt: HostRuntime) -> Result<(), Fail> {
     assert!(rt; is_plain_numeral("10") && !is_plain_numeral("010") && !is_plain_numeral(""));
     let written = take_apart("4.5.6-rc.7+b.08").ok_or("it is a version")?;
     assert_eq!(rt; written.pre, Some("rc.7"));
-    let version = Npm::copy(alloc, &valued(alloc, &written)?)?;
+    assert!(rt; plain_version_of_parts(alloc, &written)?.build.is_empty());
+    let version = Npm::copy(alloc, &version_of_parts(alloc, &written)?)?;
     assert_eq!(rt; version.build.as_str(), "b.08");
     assert_eq!(rt; version.pre.len(), 2);
     assert!(rt; matches!(version.pre.get(1), Ident::Number(7)));
     assert_eq!(rt; Npm::compare(&low, &version), Ordering::Less);
+    Ok(())
+}
+
+// Texts of versions, with the place of the first numeral past the limit where they begin at 7.
+const PAST: [(&str, Option<usize>); 5] = [
+    ("1.2.3-4.a5+340282366920938463463374607431768211456", None),
+    ("340282366920938463463374607431768211456.0.0", Some(7)),
+    ("10.340282366920938463463374607431768211456.0", Some(10)),
+    ("1.2.340282366920938463463374607431768211456-x", Some(11)),
+    (
+        "1.2.3-rc.340282366920938463463374607431768211455.340282366920938463463374607431768211456",
+        Some(56),
+    ),
+];
+
+#[test]
+fn finds_numerals_past_the_limit(rt: HostRuntime) -> Result<(), Fail> {
+    for (text, place) in PAST {
+        assert!(rt; text.len() < 100);
+        let written = take_apart(text).ok_or("it is a version")?;
+        assert_eq!(rt; past_numeral(&written, 7), place, "{text}");
+    }
     Ok(())
 }

@@ -1,4 +1,4 @@
-ghost use Rattle.std.specs.Prelude.{◌≡◌, [], ◌∷◌, ◌++◌, ◌<◌, ◌^◌, length, IfOk};
+ghost use Rattle.std.specs.Prelude.{◌≡◌, IfOk};
 ghost use Rattle.npm_scheme.specs.Version.{lowest_of};
 
 use std::alloc::Global;
@@ -21,13 +21,13 @@ pub struct NpmVersion {
 }
 
 impl Model for NpmVersion {
-    ghost use Rattle.npm_scheme.specs.Version.{Fields, Fits, IsVersion};
+    ghost use Rattle.npm_scheme.specs.Version.{Fields, IsVersion, IsWithin};
 
     ghost Value = { Fields };
 
     ghost view = { λ v. record { major = v.major; minor = v.minor; patch = v.patch; pre = v.pre; build = v.build } };
 
-    ghost invariant = { λ v. IsVersion (record { major = v.major; minor = v.minor; patch = v.patch; pre = v.pre; build = v.build }) × Fits (record { major = v.major; minor = v.minor; patch = v.patch; pre = v.pre; build = v.build }) };
+    ghost invariant = { λ v. IsVersion (record { major = v.major; minor = v.minor; patch = v.patch; pre = v.pre; build = v.build }) × IsWithin (record { major = v.major; minor = v.minor; patch = v.patch; pre = v.pre; build = v.build }) };
 }
 
 /// The same version once more.
@@ -49,8 +49,7 @@ pub(crate) fn copy(alloc: Global, version: &NpmVersion) -> Result<NpmVersion, No
 pub fn lowest(alloc: Global, major: u128, minor: u128, patch: u128) -> Result<NpmVersion, NoMemory>
     ensures { IfOk result (λ v. v ≡ lowest_of major minor patch) }
 {
-    let mut pre = Idents::new(alloc);
-    pre.push(Ident::Number(0))?;
+    let pre = Idents::one(alloc, Ident::Number(0))?;
     Ok(NpmVersion {
         major,
         minor,

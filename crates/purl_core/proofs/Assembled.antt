@@ -1,5 +1,5 @@
 -- The checked parts of a text, put together, are what the text spells.
-use Rattle.std.proofs.Common.{◌≡◌, ◌++◌, ◌+◌, ℕ, List, [], ◌∷◌, map, length, refl, sym, ap, ◌∙◌, subst, Option, Some, None, true, Err}
+use Rattle.std.proofs.Common.{◌≡◌, ◌≢◌, ◌++◌, ◌+◌, ℕ, List, [], ◌∷◌, map, length, refl, sym, ap, ◌∙◌, subst, Option, Some, None, true, Err}
 use Rattle.std.specs.List.{AllByRecursion, slice_split}
 use Rattle.std.specs.Str.{IsUtf8}
 use Rattle.std.specs.Char.{is_ascii_alphabetic}
@@ -9,13 +9,14 @@ use Rattle.std.proofs.lemmas.Bool.Decides.{nat_tests}
 use Rattle.vx_spec.proofs.TextLaws.{each_by_test, utf8_by_each}
 use Rattle.vx_text.specs.Escapes.{IsWhole, unescaped}
 use Rattle.vx_text.specs.Folding.{lowered}
-use Rattle.purl_core.specs.Grammar.{Parts, IsWritten, is_kind, is_kind_byte, kept}
+use Rattle.purl_core.specs.Grammar.{HasSegment, Parts, IsPurlWritten, is_kind, is_kind_byte, kept_parts}
 use Rattle.purl_core.specs.Value.{Ascending}
-use Rattle.purl_core.specs.Spelling.{ArePieces, Distinct, IsDecodable, IsPiece, SameMap, SpellsPurl, listed, not_empty, pieces, valued}
-use Rattle.purl_core.specs.Places.{AllText, AllWhole, AreKeyed, components, keyed_pair, path_at, pieces_of, placed, placed_whole, places, subpath_at, value_in, values, version_at, without_places}
+use Rattle.purl_core.specs.Spelling.{ArePieces, Distinct, IsDecodable, IsPiece, SameMap, SpellsPurl, not_empty, pieces, valued_pairs}
+use Rattle.purl_core.specs.Places.{AllText, AllWhole, IsText, AreKeyed, components, keyed_pair, path_at, pieces_of, placed_parts, placed_whole, places, subpath_at, value_in, values, version_at, without_places}
 use Rattle.purl_core.specs.Reading.{IsRefused}
-use Rattle.purl_core.specs.Reads.{IsChecked, IsText, without_dots}
-use Rattle.purl_core.specs.Pairing.{IsPaired}
+use Rattle.purl_core.specs.Steps.Reads.{AreTexts, IsTextFault, bytes_of, without_dots}
+use Rattle.purl_core.specs.declared.reading.Texts.{Texts}
+use Rattle.purl_core.specs.Steps.Pairing.{IsPaired}
 use Rattle.purl_core.specs.declared.fault.PurlFault.{PurlFault}
 use Rattle.purl_core.specs.declared.fault.PurlFault.TheVariants.{Scheme, BadType, Name, Escape, NotText, Qualifier, DuplicateKey, NoMemory}
 use Rattle.purl_core.proofs.SoFar.{first_value}
@@ -34,12 +35,12 @@ module _ (P : List ℕ → Type 0) where
   each_behind [] ys all = all
   each_behind (x ∷ xs) ys all = each_behind xs ys all.1
 
-  each_kept : (at : ℕ) (xs : List (List ℕ)) → Each (places at xs) → AllByRecursion P (kept xs)
+  each_kept : (at : ℕ) (xs : List (List ℕ)) → Each (places at xs) → AllByRecursion P (kept_parts xs)
   each_kept at [] all = tt
   each_kept at ([] ∷ xs) all = each_kept (at + 1) xs all
   each_kept at ((b ∷ x) ∷ xs) all = (all.0, each_kept (at + length (b ∷ x) + 1) xs all.1)
 
-  each_piece : (at mark : ℕ) (x : Option (List ℕ)) → Each (placed at mark x) → AllByRecursion P (pieces mark x)
+  each_piece : (at mark : ℕ) (x : Option (List ℕ)) → Each (placed_parts at mark x) → AllByRecursion P (pieces mark x)
   each_piece at mark None all = tt
   each_piece at mark (Some text) all = each_kept at (slice_split (λ b. eqb b mark) text) all
 
@@ -49,18 +50,18 @@ module _ (P : List ℕ → Type 0) where
 
   module _ (p : Parts) (all : Each (components p)) where
     pub each_path : AllByRecursion P (pieces 47 (Some p.path))
-    each_path = each_piece (path_at p) 47 (Some p.path) (each_front (placed (path_at p) 47 (Some p.path)) _ all)
+    each_path = each_piece (path_at p) 47 (Some p.path) (each_front (placed_parts (path_at p) 47 (Some p.path)) _ all)
 
     pub each_version : AllByRecursion P (not_empty p.version)
-    each_version = each_whole (version_at p) p.version (each_front (placed_whole (version_at p) p.version) _ (each_behind (placed (path_at p) 47 (Some p.path)) _ all))
+    each_version = each_whole (version_at p) p.version (each_front (placed_whole (version_at p) p.version) _ (each_behind (placed_parts (path_at p) 47 (Some p.path)) _ all))
 
     pub each_value : Each (values (pieces_of p))
-    each_value = each_front (values (pieces_of p)) _ (each_behind (placed_whole (version_at p) p.version) _ (each_behind (placed (path_at p) 47 (Some p.path)) _ all))
+    each_value = each_front (values (pieces_of p)) _ (each_behind (placed_whole (version_at p) p.version) _ (each_behind (placed_parts (path_at p) 47 (Some p.path)) _ all))
 
     pub each_segment : AllByRecursion P (pieces 47 p.subpath)
     each_segment =
         each_piece (subpath_at p) 47 p.subpath
-        (each_behind (values (pieces_of p)) _ (each_behind (placed_whole (version_at p) p.version) _ (each_behind (placed (path_at p) 47 (Some p.path)) _ all)))
+        (each_behind (values (pieces_of p)) _ (each_behind (placed_whole (version_at p) p.version) _ (each_behind (placed_parts (path_at p) 47 (Some p.path)) _ all)))
 
   -- the value of a piece
   value_has : (piece : ℕ × List ℕ) (pair : List ℕ × List ℕ) → IsPiece piece.1 pair → Each (value_in piece.0 piece.1) → P pair.1
@@ -72,17 +73,18 @@ both : (xs : List (List ℕ)) → AllByRecursion IsWhole xs → AllByRecursion I
 both [] p q = tt
 both (x ∷ xs) p q = (record { whole = p.0; utf8 = q.0 }, both xs p.1 q.1)
 
-abbrev pub bytes_of : List (ℕ × List ℕ) → List (List ℕ)
-bytes_of parts = map (λ (part : ℕ × List ℕ). part.1) parts
-
-bytes_places : (at : ℕ) (xs : List (List ℕ)) → bytes_of (places at xs) ≡ kept xs
+bytes_places : (at : ℕ) (xs : List (List ℕ)) → bytes_of (places at xs) ≡ kept_parts xs
 bytes_places at [] = refl
 bytes_places at ([] ∷ xs) = bytes_places (at + 1) xs
 bytes_places at ((b ∷ x) ∷ xs) = ap (λ (l : List (List ℕ)). (b ∷ x) ∷ l) (bytes_places (at + length (b ∷ x) + 1) xs)
 
-pub bytes_placed : (at mark : ℕ) (x : Option (List ℕ)) → bytes_of (placed at mark x) ≡ pieces mark x
+pub bytes_placed : (at mark : ℕ) (x : Option (List ℕ)) → bytes_of (placed_parts at mark x) ≡ pieces mark x
 bytes_placed at mark None = refl
 bytes_placed at mark (Some text) = bytes_places at (slice_split (λ b. eqb b mark) text)
+
+pub bytes_whole : (at : ℕ) (x : Option (List ℕ)) → bytes_of (placed_whole at x) ≡ not_empty x
+bytes_whole at None = refl
+bytes_whole at (Some text) = bytes_places at (text ∷ [])
 
 -- ---- qualifiers
 
@@ -90,10 +92,10 @@ record AreThePairs (parts : List (ℕ × List ℕ)) (keyed : List (ℕ × (List 
   pairs : List (List ℕ × List ℕ)
   are : ArePieces (bytes_of parts) pairs
   good : AllByRecursion (λ (pair : List ℕ × List ℕ). IsDecodable pair.1) pairs
-  valued_are : valued pairs ≡ without_places keyed
+  valued_are : valued_pairs pairs ≡ without_places keyed
 
-pub valued_more : (at : ℕ) (pair : List ℕ × List ℕ) (pairs : List (List ℕ × List ℕ)) (rest : List (ℕ × (List ℕ × List ℕ))) → valued pairs ≡ without_places rest
-    → valued (pair ∷ pairs) ≡ without_places (keyed_pair at pair ++ rest)
+pub valued_more : (at : ℕ) (pair : List ℕ × List ℕ) (pairs : List (List ℕ × List ℕ)) (rest : List (ℕ × (List ℕ × List ℕ))) → valued_pairs pairs ≡ without_places rest
+    → valued_pairs (pair ∷ pairs) ≡ without_places (keyed_pair at pair ++ rest)
 valued_more at (key, []) pairs rest e = e
 valued_more at (key, b ∷ value) pairs rest e = ap (λ (l : List (List ℕ × List ℕ)). (lowered key, unescaped (b ∷ value)) ∷ l) e
 
@@ -116,13 +118,11 @@ the_pairs (part ∷ parts) keyed (pair, rest, is, more, e) whole text =
 
 -- ---- the whole value
 
-pub spelled : (text : List ℕ) (parts : Parts) (kind : List ℕ) (namespace : List (List ℕ)) (name : List ℕ) (version : Option (List ℕ)) (qualifiers : List (List ℕ × List ℕ)) (subpath : List (List ℕ))
-    → IsWritten text parts → AllWhole (components parts) → AllText (components parts) → kind ≡ lowered parts.kind
-    → namespace ++ name ∷ [] ≡ map unescaped (pieces 47 (Some parts.path)) → listed version ≡ map unescaped (not_empty parts.version)
+pub spelled : (text : List ℕ) (parts : Parts) (kind : List ℕ) (texts : Texts) (qualifiers : List (List ℕ × List ℕ))
+    → IsPurlWritten text parts → AllWhole (components parts) → AllText (components parts) → AreTexts parts texts → kind ≡ lowered parts.kind
     → ((keyed : List (ℕ × (List ℕ × List ℕ))) × AreKeyed (pieces_of parts) keyed × Distinct (without_places keyed) × SameMap qualifiers (without_places keyed) × Ascending qualifiers)
-    → subpath ≡ without_dots (map unescaped (pieces 47 parts.subpath))
-    → SpellsPurl text (record { kind = kind; namespace = namespace; name = name; version = version; qualifiers = qualifiers; subpath = subpath })
-spelled text parts kind namespace name version qualifiers subpath written whole text_all kind_is path_is version_is (keyed, keyed_are, distinct, same, up) subpath_is =
+    → SpellsPurl text (record { kind = kind; namespace = texts.namespace; name = texts.name; version = texts.version; qualifiers = qualifiers; subpath = texts.subpath })
+spelled text parts kind texts qualifiers written whole text_all are kind_is (keyed, keyed_are, distinct, same, up) =
     let r = the_pairs (pieces_of parts) keyed keyed_are (each_value IsWhole parts whole) (each_value IsText parts text_all) in
     record {
       parts = parts;
@@ -130,9 +130,9 @@ spelled text parts kind namespace name version qualifiers subpath written whole 
       valued_as = record {
         kind = kind_is;
         path_good = both (pieces 47 (Some parts.path)) (each_path IsWhole parts whole) (each_path IsText parts text_all);
-        path = path_is;
+        path = are.path ∙ ap (map unescaped) (bytes_placed (path_at parts) 47 (Some parts.path));
         version_good = both (not_empty parts.version) (each_version IsWhole parts whole) (each_version IsText parts text_all);
-        version = version_is;
+        version = are.version ∙ ap (map unescaped) (bytes_whole (version_at parts) parts.version);
         pairs = r.pairs;
         pairs_are = subst (λ l. ArePieces l r.pairs) (bytes_placed _ 38 parts.qualifiers) r.are;
         values_good = r.good;
@@ -140,23 +140,28 @@ spelled text parts kind namespace name version qualifiers subpath written whole 
         ascending = up;
         qualifiers = subst (SameMap qualifiers) (sym r.valued_are) same;
         subpath_good = both (pieces 47 parts.subpath) (each_segment IsWhole parts whole) (each_segment IsText parts text_all);
-        subpath = subpath_is;
+        subpath = are.subpath ∙ ap (λ (l : List (List ℕ)). without_dots (map unescaped l)) (bytes_placed (subpath_at parts) 47 parts.subpath);
       };
     }
 
+-- a path with a segment has a part
+pub some_part : (parts : Parts) → HasSegment parts.path → placed_parts (path_at parts) 47 (Some parts.path) ≢ []
+some_part parts some none = some (sym (bytes_placed (path_at parts) 47 (Some parts.path)) ∙ ap bytes_of none)
+
 -- ---- refusals
 
-pub refused_by_check : (text : List ℕ) (parts : Parts) (fault : PurlFault) → IsWritten text parts → IsChecked parts (Err fault) → IsRefused text fault
-refused_by_check text parts Scheme written h = absurd h
-refused_by_check text parts BadType written h = absurd h
-refused_by_check text parts Name written h = absurd h
-refused_by_check text parts (Escape at) written h = (parts, written, h)
-refused_by_check text parts (NotText at) written h = (parts, written, h.0, h.1)
-refused_by_check text parts (Qualifier at) written h = (parts, written, h.0, h.1, h.2)
-refused_by_check text parts (DuplicateKey at) written h = absurd h
-refused_by_check text parts NoMemory written h = tt
+pub refused_by_text : (text : List ℕ) (parts : Parts) (fault : PurlFault) → IsPurlWritten text parts → AllWhole (components parts) → IsTextFault (components parts) fault
+    → IsRefused text fault
+refused_by_text text parts Scheme written whole h = absurd h
+refused_by_text text parts BadType written whole h = absurd h
+refused_by_text text parts Name written whole h = absurd h
+refused_by_text text parts (Escape at) written whole h = absurd h
+refused_by_text text parts (NotText at) written whole h = (parts, written, whole, h)
+refused_by_text text parts (Qualifier at) written whole h = absurd h
+refused_by_text text parts (DuplicateKey at) written whole h = absurd h
+refused_by_text text parts NoMemory written whole h = tt
 
-pub refused_by_pairs : (text : List ℕ) (parts : Parts) (fault : PurlFault) → IsWritten text parts → AllWhole (components parts) → AllText (components parts)
+pub refused_by_pairs : (text : List ℕ) (parts : Parts) (fault : PurlFault) → IsPurlWritten text parts → AllWhole (components parts) → AllText (components parts)
     → IsPaired (pieces_of parts) (Err fault) → IsRefused text fault
 refused_by_pairs text parts Scheme written whole text_all h = absurd h
 refused_by_pairs text parts BadType written whole text_all h = absurd h

@@ -1,51 +1,14 @@
--- Cuts: where they are, and that there is one.
+-- The cut before a version: where it is, and that there is one.
 use Rattle.std.proofs.Common.{◌≡◌, ◌≢◌, ◌<◌, ◌≤◌, ◌+◌, ◌-◌, ℕ, zero, suc, List, [], ◌∷◌, ◌++◌, length, get_or, take, drop, refl, sym, ap, ◌∙◌, subst, Option, Some, None, arith, append-nil, take-append-drop, length-drop}
-use Rattle.std.proofs.lemmas.List.{drop_more, get_or-take, get_or-drop, length-take-le, take_rest}
+use Rattle.std.proofs.lemmas.List.{drop_more, get_or-drop, take_rest}
 use Rattle.std.proofs.Common.{inl, inr}
 use Rattle.std.proofs.lemmas.Bool.{cases_eq}
-use Rattle.vx_spec.proofs.MarkLaws.{lacks}
-use Rattle.vx_spec.specs.Marks.{Lacks, marked, IsCut}
-use Rattle.purl_core.specs.Cuts.{last_part, IsLastCut, last_of, NoneCounts, CountsLast, IsVersionCut}
+use Rattle.vx_spec.specs.Marks.{marked}
+use Rattle.purl_core.specs.Cuts.{last_of, NoneCounts, CountsLast, IsVersionCut}
 
 -- a list is its front, the byte at i and the rest
-pub split_around : (xs : List ℕ) (i s : ℕ) → i < length xs → get_or xs i 0 ≡ s → xs ≡ take i xs ++ s ∷ drop (i + 1) xs
+split_around : (xs : List ℕ) (i s : ℕ) → i < length xs → get_or xs i 0 ≡ s → xs ≡ take i xs ++ s ∷ drop (i + 1) xs
 split_around xs i s inside here = sym (take-append-drop i xs) ∙ ap (λ l. take i xs ++ l) (drop_more xs i 0 inside ∙ ap (λ b. b ∷ drop (i + 1) xs) here)
-
-pub cut_at : (c : ℕ) (text : List ℕ) (i : ℕ) → i < length text → get_or text i 0 ≡ c → ((k : ℕ) → k < i → get_or text k 0 ≢ c)
-    → IsCut c text (take i text) (Some (take (length text - (i + 1)) (drop (i + 1) text)))
-cut_at c text i inside here before = record {
-  joined = split_around text i c inside here ∙ ap (λ (t : List ℕ). take i text ++ c ∷ t) (sym (take_rest text (i + 1)));
-  first = lacks c (take i text) (λ k w. let below : k < i = omega (arith, length-take-le i text (omega (arith, inside))) in rw (get_or-take i text k 0 below) (before k below));
-}
-
-pub last_cut_at : (c : ℕ) (text : List ℕ) (i : ℕ) → i < length text → get_or text i 0 ≡ c → ((k : ℕ) → i + 1 ≤ k → k < length text → get_or text k 0 ≢ c)
-    → IsLastCut c text (take i text) (Some (take (length text - (i + 1)) (drop (i + 1) text)))
-last_cut_at c text i inside here after = record {
-  joined = split_around text i c inside here ∙ ap (λ (t : List ℕ). take i text ++ c ∷ t) (sym (take_rest text (i + 1)));
-  last = rw (take_rest text (i + 1)) (lacks c (drop (i + 1) text) (λ k w. rw (get_or-drop (i + 1) text k 0) (after (i + 1 + k) (omega arith) (omega (arith, length-drop (i + 1) text)))));
-}
-
-pub no_cut : (c : ℕ) (text : List ℕ) → ((k : ℕ) → k < length text → get_or text k 0 ≢ c) → IsCut c text text None
-no_cut c text none = record { joined = sym (append-nil text); first = lacks c text none }
-
-pub no_last_cut : (c : ℕ) (text : List ℕ) → ((k : ℕ) → k < length text → get_or text k 0 ≢ c) → IsLastCut c text text None
-no_last_cut c text none = record { joined = sym (append-nil text); last = lacks c text none }
-
--- what stands behind the mark is the last part, so no text that lacks the mark has one
-not_lacking : (c : ℕ) (xs t : List ℕ) → Lacks c (xs ++ c ∷ t) → ⊥
-not_lacking c [] t p = p.0 refl
-not_lacking c (x ∷ xs) t p = not_lacking c xs t p.1
-
--- A text is cut at its last mark in one way.
-pub one_last_cut : (c : ℕ) (a b : List ℕ) (x y : Option (List ℕ)) → Lacks c (last_part a x) → Lacks c (last_part b y) → a ++ marked c x ≡ b ++ marked c y
-    → (a ≡ b) × (x ≡ y)
-one_last_cut c a b None None p q e = (sym (append-nil a) ∙ e ∙ append-nil b, refl)
-one_last_cut c a b None (Some t) p q e = absurd (not_lacking c b t (subst (Lacks c) (sym (append-nil a) ∙ e) p))
-one_last_cut c a b (Some s) None p q e = absurd (not_lacking c a s (subst (Lacks c) (sym (append-nil b) ∙ sym e) q))
-one_last_cut c [] [] (Some s) (Some t) p q e = (refl, cc e)
-one_last_cut c [] (y ∷ ys) (Some s) (Some t) p q e = let f : s ≡ ys ++ c ∷ t = cc e in absurd (not_lacking c ys t (subst (Lacks c) f p))
-one_last_cut c (x ∷ xs) [] (Some s) (Some t) p q e = let f : t ≡ xs ++ c ∷ s = cc e in absurd (not_lacking c xs s (subst (Lacks c) f q))
-one_last_cut c (x ∷ xs) (y ∷ ys) (Some s) (Some t) p q e = let r = one_last_cut c xs ys (Some s) (Some t) p q (cc e) in (cc (e, r.0), r.1)
 
 -- where an '@' that stands in a text is the last of its front, it is directly behind a '/'
 none_front : (before : ℕ) (xs t : List ℕ) → NoneCounts before (xs ++ 64 ∷ t) → last_of before xs ≡ 47

@@ -4,20 +4,20 @@ use Rattle.std.specs.List.{AllByRecursion, join_with_byte}
 use Rattle.vx_text.proofs.Joins.{split_join}
 use Rattle.vx_spec.specs.Marks.{Lacks}
 use Rattle.purl_core.specs.Cuts.{last_of, NoneCounts}
-use Rattle.purl_core.specs.Grammar.{kept}
+use Rattle.purl_core.specs.Grammar.{kept_parts}
 use Rattle.purl_core.specs.Spelling.{pieces}
-use Rattle.purl_core.specs.Printed.{joined}
+use Rattle.purl_core.specs.Printed.{joined_parts}
 
 -- ---- cutting undoes joining
 
-pub kept_all : (xs : List (List ℕ)) → AllByRecursion (λ (t : List ℕ). t ≢ []) xs → kept xs ≡ xs
+pub kept_all : (xs : List (List ℕ)) → AllByRecursion (λ (t : List ℕ). t ≢ []) xs → kept_parts xs ≡ xs
 kept_all [] all = refl
 kept_all ([] ∷ xs) all = absurd (all.0 refl)
 kept_all ((b ∷ x) ∷ xs) all = ap (λ (r : List (List ℕ)). (b ∷ x) ∷ r) (kept_all xs all.1)
 
-pub pieces_joined : (c : ℕ) (xs : List (List ℕ)) → AllByRecursion (Lacks c) xs → AllByRecursion (λ (t : List ℕ). t ≢ []) xs → pieces c (joined c xs) ≡ xs
+pub pieces_joined : (c : ℕ) (xs : List (List ℕ)) → AllByRecursion (Lacks c) xs → AllByRecursion (λ (t : List ℕ). t ≢ []) xs → pieces c (joined_parts c xs) ≡ xs
 pieces_joined c [] lack some = refl
-pieces_joined c (x ∷ xs) lack some = ap kept (split_join c x xs lack) ∙ kept_all (x ∷ xs) some
+pieces_joined c (x ∷ xs) lack some = ap kept_parts (split_join c x xs lack) ∙ kept_all (x ∷ xs) some
 
 -- ---- the version
 

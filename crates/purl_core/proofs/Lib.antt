@@ -1,8 +1,8 @@
 pub mod Ascending
 pub mod Assembled
 pub mod Cuts
-pub mod Joined
-pub mod Kept
+pub mod Decoded
+pub mod Firsts
 pub mod Lacking
 pub mod OneRefusal
 pub mod OneValue
@@ -16,3 +16,4 @@ pub mod SoFar
 pub mod Splits
 pub mod Unspelled
 pub mod Valid
+pub mod Written

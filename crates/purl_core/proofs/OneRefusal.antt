@@ -2,7 +2,7 @@
 use Rattle.std.proofs.Common.{◌≡◌, ◌≢◌, ◌+◌, ◌++◌, ℕ, List, [], ◌∷◌, refl, sym, ap, ◌∙◌, subst, append_assoc, inl, inr}
 use Rattle.std.proofs.lemmas.List.{map-append}
 use Rattle.vx_text.proofs.EscapeLaws.{not_whole, one_first_broken}
-use Rattle.purl_core.specs.Grammar.{Parts, IsWritten, WithScheme, WithType}
+use Rattle.purl_core.specs.Grammar.{Parts, IsPurlWritten, WithScheme, WithType}
 use Rattle.purl_core.specs.Spelling.{Distinct}
 use Rattle.purl_core.specs.Places.{AllText, AllWhole, AreKeyed, HasKey, IsBadPieceAt, IsDuplicateAt, IsEscapeAt, IsNotTextAt, components, keyed_pair, pieces_of, without_places}
 use Rattle.purl_core.specs.Reading.{IsRefused}
@@ -97,7 +97,7 @@ type_scheme : (text : List ℕ) → WithType text → WithScheme text
 type_scheme text w = record { body = w.body; qualifiers = w.qualifiers; subpath = w.subpath; scheme = w.scheme; rest = w.rest; ended = w.ended; scheme_is = w.scheme_is }
 
 -- what holds of the raw parts of a text holds of them however they were found
-there : (text : List ℕ) (P : Parts → Type 0) (a b : Parts) → IsWritten text a → IsWritten text b → P b → P a
+there : (text : List ℕ) (P : Parts → Type 0) (a b : Parts) → IsPurlWritten text a → IsPurlWritten text b → P b → P a
 there text P a b x y = subst P (one_written text b a y x)
 
 by_scheme : (text : List ℕ) (fault : PurlFault) → ¬ (WithScheme text) → IsRefused text fault → fault ≢ NoMemory → Scheme ≡ fault

@@ -1,6 +1,6 @@
 -- A text spells one package URL.
-use Rattle.std.proofs.Common.{◌≡◌, ◌≢◌, ◌++◌, ℕ, Bool, true, false, List, [], ◌∷◌, refl, sym, ap, ◌∙◌, subst, Option, Some, None, inl, inr}
-use Rattle.std.specs.List.{AllByRecursion, list_all}
+use Rattle.std.proofs.Common.{◌≡◌, ◌≢◌, ◌++◌, ℕ, true, false, List, [], ◌∷◌, refl, sym, ap, ◌∙◌, subst, Option, Some, None, inl, inr}
+use Rattle.std.specs.List.{AllByRecursion}
 use Rattle.std.proofs.Common.{Less}
 use Rattle.std.specs.Ordering.{nat_cmp, ordering_reverse}
 use Rattle.std.specs.Cmp.Lexicographic.{slice_cmp}
@@ -9,22 +9,17 @@ use Rattle.std.proofs.lemmas.Bool.{and_parts, false≢true}
 use Rattle.std.proofs.lemmas.Cmp.{nat_list_cmp_total}
 use Rattle.vx_spec.specs.Marks.{Lacks}
 use Rattle.purl_core.specs.Grammar.{Parts}
+use Rattle.vx_spec.proofs.EndLaws.{lacks_by}
 use Rattle.vx_spec.proofs.MarkLaws.{one_cut}
 use Rattle.purl_core.proofs.PartLaws.{one_written}
 use Rattle.purl_core.specs.Value.{Package, is_key, is_key_byte, Ascending}
-use Rattle.purl_core.specs.Spelling.{IsPiece, ArePieces, Member, SameMap, valued, listed, IsValued, SpellsPurl}
-
-pub lacks_by : (test : ℕ → Bool) (c : ℕ) (text : List ℕ) → test c ≡ false → list_all test text ≡ true → Lacks c text
-lacks_by test c [] fails all = tt
-lacks_by test c (b ∷ text) fails all =
-    let a = and_parts _ _ all in
-    ((λ e. false≢true (sym fails ∙ sym (ap test e) ∙ a.0)), lacks_by test c text fails a.1)
+use Rattle.purl_core.specs.Spelling.{IsPiece, ArePieces, Member, SameMap, valued_pairs, listed_version, IsValued, SpellsPurl}
 
 pub key_lacks : (c : ℕ) (key : List ℕ) → is_ascii_alphabetic c ≡ false → is_key_byte c ≡ false → is_key key ≡ true → Lacks c key
 key_lacks c [] no_letter no_byte is = tt
 key_lacks c (b ∷ key) no_letter no_byte is =
     let a = and_parts _ _ is in
-    ((λ e. false≢true (sym no_letter ∙ sym (ap is_ascii_alphabetic e) ∙ a.0)), lacks_by is_key_byte c key no_byte a.1)
+    ((λ e. false≢true (sym no_letter ∙ sym (ap is_ascii_alphabetic e) ∙ a.0)), lacks_by is_key_byte c no_byte key a.1)
 
 pub one_piece : (piece : List ℕ) (x y : List ℕ × List ℕ) → IsPiece piece x → IsPiece piece y → x ≡ y
 one_piece piece x y p q =
@@ -91,7 +86,7 @@ last_apart (a ∷ []) [] x y e = cc e
 last_apart (a ∷ c ∷ xs) [] x y e = cc e
 last_apart (a ∷ xs) (b ∷ ys) x y e = let r = last_apart xs ys x y (cc e) in (cc (e, r.0), r.1)
 
-one_listed : (x y : Option (List ℕ)) → listed x ≡ listed y → x ≡ y
+one_listed : (x y : Option (List ℕ)) → listed_version x ≡ listed_version y → x ≡ y
 one_listed None None e = refl
 one_listed None (Some t) e = cc e
 one_listed (Some s) None e = cc e
@@ -110,9 +105,9 @@ one_valued : (parts : Parts) (p q : Package) → IsValued parts p → IsValued p
 one_valued parts p q x y =
     let path = last_apart p.namespace q.namespace p.name q.name (x.path ∙ sym y.path) in
     let pairs = one_pieces _ x.pairs y.pairs x.pairs_are y.pairs_are in
-    let map_of : SameMap q.qualifiers (valued x.pairs) = rw pairs y.qualifiers in
+    let map_of : SameMap q.qualifiers (valued_pairs x.pairs) = rw pairs y.qualifiers in
     same_package (x.kind ∙ sym y.kind) path.0 path.1 (one_listed p.version q.version (x.version ∙ sym y.version))
-    (same_lists p.qualifiers q.qualifiers x.ascending y.ascending (swap_map p.qualifiers q.qualifiers (valued x.pairs) x.qualifiers map_of)) (x.subpath ∙ sym y.subpath)
+    (same_lists p.qualifiers q.qualifiers x.ascending y.ascending (swap_map p.qualifiers q.qualifiers (valued_pairs x.pairs) x.qualifiers map_of)) (x.subpath ∙ sym y.subpath)
 
 pub one_value : (text : List ℕ) (p q : Package) → SpellsPurl text p → SpellsPurl text q → p ≡ q
 one_value text p q x y = one_valued x.parts p q x.valued_as (rw (one_written text x.parts y.parts x.written y.written) y.valued_as)

@@ -1,12 +1,13 @@
 -- A text is written of one list of raw parts.
-use Rattle.std.proofs.Common.{◌≡◌, ◌≢◌, ◌≤◌, ◌+◌, eqb, ℕ, suc, Bool, true, false, not, List, [], ◌∷◌, ◌++◌, length, map, take, drop, refl, sym, ap, ◌∙◌, subst, Option, Some, arith, inl, inr}
-use Rattle.std.specs.List.{AllByRecursion, list_all, list_any, prefix_len, onto_first}
+use Rattle.std.proofs.Common.{◌≡◌, ◌≢◌, ◌≤◌, ◌+◌, eqb, ℕ, suc, true, not, List, [], ◌∷◌, ◌++◌, length, map, take, drop, refl, sym, ap, ◌∙◌, subst, Option, Some, arith, inl, inr}
+use Rattle.std.specs.List.{AllByRecursion, list_any, prefix_len, onto_first}
 use Rattle.std.specs.Char.{is_ascii_alphabetic, to_ascii_lowercase}
 use Rattle.std.proofs.lemmas.Bool.{and_parts, false≢true, cases_Bool, eqb-true, ne_eqb, eq-eqb}
 use Rattle.vx_spec.proofs.MarkLaws.{one_cut}
 use Rattle.vx_spec.specs.Marks.{Lacks, marked, IsCut}
-use Rattle.purl_core.specs.Grammar.{is_kind, is_kind_byte, IsEnded, HasScheme, HasType, HasSegment, between, kept, Parts, IsWritten}
-use Rattle.purl_core.proofs.Cuts.{one_last_cut, one_version_cut}
+use Rattle.purl_core.specs.Grammar.{is_kind, is_kind_byte, IsEnded, HasScheme, HasType, HasSegment, between, kept_parts, Parts, IsPurlWritten}
+use Rattle.vx_spec.proofs.EndLaws.{lacks_by, one_last_cut}
+use Rattle.purl_core.proofs.Cuts.{one_version_cut}
 
 pub one_ended : {text b b' : List ℕ} {q q' s s' : Option (List ℕ)} → IsEnded text b q s → IsEnded text b' q' s' → (b ≡ b') × (q ≡ q') × (s ≡ s')
 one_ended {text} {b} {b'} {q} {q'} {s} {s'} x y =
@@ -37,18 +38,12 @@ one_scheme {body} {s} {r} {s'} {r'} x y =
 
 -- ---- the type
 
-lacks_by : (test : ℕ → Bool) (c : ℕ) (text : List ℕ) → test c ≡ false → list_all test text ≡ true → Lacks c text
-lacks_by test c [] fails all = tt
-lacks_by test c (b ∷ text) fails all =
-    let a = and_parts _ _ all in
-    ((λ e. false≢true (sym fails ∙ sym (ap test e) ∙ a.0)), lacks_by test c text fails a.1)
-
 letter_other : (b : ℕ) → is_ascii_alphabetic b ≡ true → b ≢ 47
 letter_other b is e = false≢true (sym (ap is_ascii_alphabetic e) ∙ is)
 
 pub kind_lacks : (kind : List ℕ) → is_kind kind ≡ true → Lacks 47 kind
 kind_lacks [] e = tt
-kind_lacks (b ∷ kind) e = let a = and_parts _ _ e in (letter_other b a.0, lacks_by is_kind_byte 47 kind refl a.1)
+kind_lacks (b ∷ kind) e = let a = and_parts _ _ e in (letter_other b a.0, lacks_by is_kind_byte 47 refl kind a.1)
 
 -- how many slashes stand first
 slashes_len : (sl kind rest : List ℕ) → AllByRecursion (λ b. b ≡ 47) sl → is_kind kind ≡ true → prefix_len (λ b. eqb b 47) (sl ++ (kind ++ rest)) ≡ length sl
@@ -108,7 +103,7 @@ same : {s s' l l' k k' p p' : List ℕ} {v v' q q' u u' : Option (List ℕ)} →
     (record { scheme = s'; slashes = l'; kind = k'; path = p'; version = v'; qualifiers = q'; subpath = u' })
 same a b c d e f g = cc (a, b, c, d, e, f, g)
 
-pub one_written : (text : List ℕ) (p q : Parts) → IsWritten text p → IsWritten text q → p ≡ q
+pub one_written : (text : List ℕ) (p q : Parts) → IsPurlWritten text p → IsPurlWritten text q → p ≡ q
 one_written text p q x y =
     let ends = one_ended x.ended y.ended in
     let scheme = one_scheme x.scheme_is (rw (← ends.0) at y.scheme_is) in
@@ -119,7 +114,7 @@ one_written text p q x y =
 
 -- ---- segments
 
-onto_kept : (b : ℕ) (parts : List (List ℕ)) → kept (onto_first b parts) ≢ []
+onto_kept : (b : ℕ) (parts : List (List ℕ)) → kept_parts (onto_first b parts) ≢ []
 onto_kept b [] e = cc e
 onto_kept b (p ∷ ps) e = cc e
 

@@ -11,16 +11,17 @@ use Rattle.std.proofs.lemmas.List.Elements.{All-from_recursion}
 use Rattle.percent_encoding.specs.Percent.{percent_decode}
 use Rattle.vx_text.specs.Escapes.{escaped, is_left}
 use Rattle.vx_text.proofs.EscapeLaws.{escaped-whole, unescaped-escaped}
-use Rattle.vx_spec.specs.Marks.{Lacks, marked}
-use Rattle.purl_core.specs.Cuts.{last_part, IsLastCut, IsVersionCut}
-use Rattle.purl_core.specs.Grammar.{Parts, IsWritten, IsEnded, is_kind, is_kind_byte}
+use Rattle.vx_spec.specs.Marks.{IsLastCut, Lacks, marked}
+use Rattle.purl_core.specs.Cuts.{IsVersionCut}
+use Rattle.purl_core.specs.Grammar.{Parts, IsPurlWritten, IsEnded, is_kind, is_kind_byte}
 use Rattle.purl_core.specs.Value.{Package, IsValid, IsPart, IsPair, IsSegment, IsVersion, Ascending, is_key_byte, is_dots}
 use Rattle.vx_text.specs.Folding.{lowered}
-use Rattle.purl_core.specs.Spelling.{IsDecodable, pieces, not_empty, listed, ArePieces, valued, Member, Distinct, SameMap, IsValued, SpellsPurl}
-use Rattle.purl_core.specs.Printed.{joined, pair_text, path_text, body_text, purl_text}
-use Rattle.purl_core.proofs.OneValue.{lacks_by, key_lacks, one_value, irreflexive}
+use Rattle.purl_core.specs.Spelling.{IsDecodable, pieces, not_empty, listed_version, ArePieces, valued_pairs, Member, Distinct, SameMap, IsValued, SpellsPurl}
+use Rattle.purl_core.specs.Printed.{joined_parts, pair_text, path_text, body_text, purl_text}
+use Rattle.purl_core.proofs.OneValue.{key_lacks, one_value, irreflexive}
 use Rattle.vx_text.proofs.EscapeLaws.{escaped_lacks, escaped_some}
-use Rattle.vx_text.proofs.Joins.{lacks_append, join_lacks, marked_lacks}
+use Rattle.vx_spec.proofs.EndLaws.{lacks_by, lacks_append}
+use Rattle.vx_text.proofs.Joins.{join_lacks, marked_lacks}
 use Rattle.purl_core.proofs.Lacking.{kept_all, pieces_joined, none_lacks, last_join}
 
 -- a byte that stands only as a sign before the qualifiers or the subpath
@@ -49,7 +50,7 @@ kind_lacks : (c : ℕ) (kind : List ℕ) → IsSign c → is_kind kind ≡ true 
 kind_lacks c [] sign is = tt
 kind_lacks c (b ∷ kind) sign is =
     let a = and_parts _ _ is in
-    ((λ e. false≢true (sym sign.letter ∙ sym (ap is_ascii_alphabetic e) ∙ a.0)), lacks_by is_kind_byte c kind sign.kind_byte a.1)
+    ((λ e. false≢true (sym sign.letter ∙ sym (ap is_ascii_alphabetic e) ∙ a.0)), lacks_by is_kind_byte c sign.kind_byte kind a.1)
 
 all_escaped_lack : (c : ℕ) (xs : List (List ℕ)) → is_left c ≡ false → 37 ≢ c → AllByRecursion (Lacks c) (map escaped xs)
 all_escaped_lack c [] out other = tt
@@ -130,7 +131,7 @@ pair_some pair is = go pair.0 (escaped pair.1) where
   go [] value e = cc e
   go (b ∷ key) value e = cc e
 
-joined_lacks : (mark c : ℕ) (xs : List (List ℕ)) → mark ≢ c → AllByRecursion (Lacks c) xs → (t : List ℕ) → joined mark xs ≡ Some t → Lacks c t
+joined_lacks : (mark c : ℕ) (xs : List (List ℕ)) → mark ≢ c → AllByRecursion (Lacks c) xs → (t : List ℕ) → joined_parts mark xs ≡ Some t → Lacks c t
 joined_lacks mark c [] other all t e = cc e
 joined_lacks mark c (x ∷ xs) other all t e = let f : join_with_byte mark (x ∷ xs) ≡ t = cc e in subst (Lacks c) f (join_lacks mark c (x ∷ xs) other all)
 
@@ -141,14 +142,14 @@ are_pieces : (xs : List (List ℕ × List ℕ)) → AllByRecursion IsPair xs →
 are_pieces [] all = tt
 are_pieces (x ∷ xs) all = (record { joined = refl; key = all.0.key }, are_pieces xs all.1)
 
-valued_more : (key value : List ℕ) (rest : List (List ℕ × List ℕ)) → value ≢ [] → valued ((key, value) ∷ rest) ≡ (lowered key, percent_decode value) ∷ valued rest
+valued_more : (key value : List ℕ) (rest : List (List ℕ × List ℕ)) → value ≢ [] → valued_pairs ((key, value) ∷ rest) ≡ (lowered key, percent_decode value) ∷ valued_pairs rest
 valued_more key [] rest some = absurd (some refl)
 valued_more key (b ∷ value) rest some = refl
 
 two : {a b c d : List ℕ} → a ≡ b → c ≡ d → ◌≡◌ {A = List ℕ × List ℕ} (a, c) (b, d)
 two e f = cc (e, f)
 
-valued_raw : (xs : List (List ℕ × List ℕ)) → AllByRecursion IsPair xs → valued (raw_pairs xs) ≡ xs
+valued_raw : (xs : List (List ℕ × List ℕ)) → AllByRecursion IsPair xs → valued_pairs (raw_pairs xs) ≡ xs
 valued_raw [] all = refl
 valued_raw (x ∷ xs) all =
     valued_more x.0 (escaped x.1) (raw_pairs xs) (escaped_some x.1 all.0.value.some)
@@ -177,7 +178,7 @@ version_good : (v : Option (List ℕ)) → IsVersion v → AllByRecursion IsDeco
 version_good None is = tt
 version_good (Some v) is = rw (kept_all (escaped v ∷ []) (escaped_some v is.some, tt)) (decodable v is, tt)
 
-version_listed : (v : Option (List ℕ)) → IsVersion v → listed v ≡ map percent_decode (not_empty (option_map escaped v))
+version_listed : (v : Option (List ℕ)) → IsVersion v → listed_version v ≡ map percent_decode (not_empty (option_map escaped v))
 version_listed None is = refl
 version_listed (Some v) is = rw (kept_all (escaped v ∷ []) (escaped_some v is.some, tt), decodes v is) refl
 
@@ -192,10 +193,10 @@ no_dots (x ∷ xs) all = rw (all.0.no_dots, no_dots xs all.1) refl
 -- ---- the whole text
 
 abbrev query : Package → Option (List ℕ)
-query p = joined 38 (map pair_text p.qualifiers)
+query p = joined_parts 38 (map pair_text p.qualifiers)
 
 abbrev subpath_of : Package → Option (List ℕ)
-subpath_of p = joined 47 (map escaped p.subpath)
+subpath_of p = joined_parts 47 (map escaped p.subpath)
 
 body_lacks : (c : ℕ) (p : Package) → IsSign c → IsValid p → Lacks c (body_text p)
 body_lacks c p sign valid = (
@@ -244,7 +245,7 @@ raw p = record {
   subpath = subpath_of p;
 }
 
-written : (p : Package) → IsValid p → IsWritten (purl_text p) (raw p)
+written : (p : Package) → IsValid p → IsPurlWritten (purl_text p) (raw p)
 written p valid = record {
   body = body_text p;
   rest = p.kind ++ 47 ∷ (path_text p ++ marked 64 (option_map escaped p.version));
@@ -274,7 +275,7 @@ valued_as p valid =
       values_good = values_good p.qualifiers valid.pairs;
       distinct = rw values (distinct p.qualifiers valid.ascending);
       ascending = valid.ascending;
-      qualifiers = same_map p.qualifiers (valued (raw_pairs p.qualifiers)) (sym values);
+      qualifiers = same_map p.qualifiers (valued_pairs (raw_pairs p.qualifiers)) (sym values);
       subpath_good = rw sub_pieces (all_decodable p.subpath sub);
       subpath = rw (sub_pieces, all_decode p.subpath sub) (sym (no_dots p.subpath valid.subpath));
     }

@@ -8,7 +8,7 @@ use Rattle.std.proofs.lemmas.Cmp.{nat_list_cmp_total}
 use Rattle.std.proofs.lemmas.Map.Lookups.{exact_bytes}
 use Rattle.purl_core.specs.Value.{Ascending}
 use Rattle.purl_core.specs.Spelling.{Member, SameMap}
-use Rattle.purl_core.specs.Pairing.{is_before, put}
+use Rattle.purl_core.specs.Steps.Pairing.{is_before, put}
 
 less_if : (o : Ordering) → is_lt o ≡ true → o ≡ Less
 less_if Less e = refl

@@ -20,7 +20,7 @@ use Rattle.vx_text.specs.Folding.{lowered}
 use Rattle.purl_core.specs.Value.{Ascending, is_key, is_key_byte}
 use Rattle.purl_core.specs.Spelling.{Distinct, IsPiece, Member, SameMap}
 use Rattle.purl_core.specs.Places.{AllPieces, AllText, AreKeyed, HasKey, IsDuplicateAt, keyed_pair, value_in, without_places}
-use Rattle.purl_core.specs.Pairing.{PutsKeyed, PutsPair, PutsPiece, entry_view, put}
+use Rattle.purl_core.specs.Steps.Pairing.{PutsKeyed, PutsPair, PutsPiece, entry_view, put}
 use Rattle.purl_core.proofs.OneValue.{key_lacks}
 use Rattle.purl_core.proofs.Put.{put_ascending, put_same}
 use Rattle.purl_core.proofs.Splits.{value_cut}

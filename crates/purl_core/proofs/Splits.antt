@@ -1,23 +1,9 @@
 -- The parts of a text that is cut at each mark, and the value behind a cut.
-use Rattle.std.proofs.Common.{◌≡◌, ◌<◌, ◌+◌, ◌++◌, ℕ, List, [], ◌∷◌, length, eqb, refl, sym, ap, ◌∙◌, arith, length-append, append_assoc, append-nil, Option, Some, None}
-use Rattle.std.specs.List.{join_with_byte, slice_split}
+use Rattle.std.proofs.Common.{◌≡◌, ◌≢◌, ◌+◌, ◌++◌, ℕ, List, [], ◌∷◌, length, refl, sym, ap, ◌∙◌, arith, length-append, append-nil, Option, Some, None}
 use Rattle.std.proofs.lemmas.Bool.{ne_eqb}
-use Rattle.std.proofs.lemmas.List.Splits.{join_with_byte-slice_split}
 use Rattle.vx_spec.specs.Marks.{IsCut, Lacks}
-use Rattle.vx_text.proofs.Joins.{parts_behind, split_cut, split_some}
-use Rattle.purl_core.specs.Places.{places, value_in, with_sign}
-use Rattle.purl_core.specs.Placing.{total}
-
-total_join : (c : ℕ) (x : List ℕ) (xs : List (List ℕ)) → total (x ∷ xs) ≡ length (join_with_byte c (x ∷ xs)) + 1
-total_join c x [] = omega arith
-total_join c x (y ∷ ys) = omega (arith, total_join c y ys, length-append x (c ∷ join_with_byte c (y ∷ ys)))
-
-total_some : (c : ℕ) (xs : List (List ℕ)) → 0 < length xs → total xs ≡ length (join_with_byte c xs) + 1
-total_some c [] some = absurd (omega arith)
-total_some c (x ∷ xs) some = total_join c x xs
-
-pub total_split : (c : ℕ) (text : List ℕ) → total (slice_split (λ b. eqb b c) text) ≡ length text + 1
-total_split c text = total_some c (slice_split (λ b. eqb b c) text) (split_some c text) ∙ ap (λ (t : List ℕ). length t + 1) (join_with_byte-slice_split c text)
+use Rattle.vx_text.proofs.Joins.{parts_behind, split_cut}
+use Rattle.purl_core.specs.Places.{placed_parts, places, value_in, with_sign}
 
 value_front : (at : ℕ) (front value : List ℕ) → Lacks 61 front → value_in at (front ++ 61 ∷ value) ≡ (at + length front + 1, value) ∷ []
 value_front at [] value lacks = ap (λ (i : ℕ). (i, value) ∷ []) (omega arith)
@@ -41,12 +27,28 @@ first_place : (at : ℕ) (front : List ℕ) (parts : List (List ℕ)) → places
 first_place at [] parts = ap (λ (i : ℕ). places i parts) (omega arith)
 first_place at (b ∷ front) parts = ap (λ (i : ℕ). (at, b ∷ front) ∷ places i parts) (omega arith)
 
-pub more_placed : (c at : ℕ) (text front : List ℕ) (behind : Option (List ℕ)) (found all : List (ℕ × List ℕ)) → IsCut c text front behind
-    → found ++ places at (parts_behind c (Some text)) ≡ all → (found ++ places at (front ∷ [])) ++ places (at + (length front + 1)) (parts_behind c behind) ≡ all
-more_placed c at text front behind found all cut e =
-    append_assoc found (places at (front ∷ [])) (places (at + (length front + 1)) (parts_behind c behind))
-    ∙ ap (λ (parts : List (ℕ × List ℕ)). found ++ parts) (sym (first_place at front (parts_behind c behind)))
-    ∙ ap (λ (parts : List (List ℕ)). found ++ places at parts) (sym (split_cut c text front behind cut)) ∙ e
+places_behind : (at mark : ℕ) (x : Option (List ℕ)) → placed_parts at mark x ≡ places at (parts_behind mark x)
+places_behind at mark None = refl
+places_behind at mark (Some text) = refl
+
+-- what is left of a cut text: its front, and the parts behind
+left_is : (c at : ℕ) (text front : List ℕ) (behind : Option (List ℕ)) → IsCut c text front behind
+    → placed_parts at c (Some text) ≡ places at (front ∷ []) ++ placed_parts (at + (length front + 1)) c behind
+left_is c at text front behind cut =
+    ap (places at) (split_cut c text front behind cut) ∙ first_place at front (parts_behind c behind)
+    ∙ ap (λ (l : List (ℕ × List ℕ)). places at (front ∷ []) ++ l) (sym (places_behind (at + (length front + 1)) c behind))
+
+-- an empty front is passed
+pub passes_empty : (c at : ℕ) (text front : List ℕ) (behind : Option (List ℕ)) → IsCut c text front behind → length front ≡ 0
+    → placed_parts at c (Some text) ≡ placed_parts (at + (length front + 1)) c behind
+passes_empty c at text [] behind cut none = left_is c at text [] behind cut
+passes_empty c at text (b ∷ front) behind cut none = absurd (omega (arith, none))
+
+-- any other is the first part
+pub takes_front : (c at : ℕ) (text front : List ℕ) (behind : Option (List ℕ)) → IsCut c text front behind → length front ≢ 0
+    → placed_parts at c (Some text) ≡ (at, front) ∷ placed_parts (at + (length front + 1)) c behind
+takes_front c at text [] behind cut some = absurd (some refl)
+takes_front c at text (b ∷ front) behind cut some = left_is c at text (b ∷ front) behind cut
 
 -- the bytes of a cut text
 pub cut_size : (c : ℕ) (text front : List ℕ) (behind : Option (List ℕ)) → IsCut c text front behind → length text + 1 ≡ length front + 1 + with_sign behind

@@ -4,18 +4,18 @@ use Rattle.std.specs.List.{AllByRecursion, slice_split}
 use Rattle.std.proofs.lemmas.List.{map-append}
 use Rattle.vx_text.specs.Escapes.{IsWhole}
 use Rattle.vx_text.proofs.EscapeLaws.{not_whole}
-use Rattle.purl_core.specs.Grammar.{Parts, IsWritten, WithScheme, WithType, kept}
+use Rattle.purl_core.specs.Grammar.{Parts, IsPurlWritten, WithScheme, WithType, kept_parts}
 use Rattle.purl_core.specs.Value.{Package}
-use Rattle.purl_core.specs.Spelling.{ArePieces, Distinct, IsDecodable, IsValued, SpellsPurl, not_empty, pieces, valued}
-use Rattle.purl_core.specs.Places.{AllText, AllWhole, AreKeyed, HasKey, IsBadPieceAt, IsDuplicateAt, IsEscapeAt, IsNotTextAt, components, keyed_pair, path_at, pieces_of, placed, placed_whole, places, qualifiers_at, subpath_at, value_in, values, version_at, without_places}
+use Rattle.purl_core.specs.Spelling.{ArePieces, Distinct, IsDecodable, IsValued, SpellsPurl, not_empty, pieces, valued_pairs}
+use Rattle.purl_core.specs.Places.{AllText, AllWhole, IsText, AreKeyed, HasKey, IsBadPieceAt, IsDuplicateAt, IsEscapeAt, IsNotTextAt, components, keyed_pair, path_at, pieces_of, placed_parts, placed_whole, places, qualifiers_at, subpath_at, value_in, values, version_at, without_places}
 use Rattle.purl_core.specs.Reading.{IsRefused}
-use Rattle.purl_core.specs.Reads.{IsText}
+use Rattle.purl_core.specs.Steps.Reads.{bytes_of}
 use Rattle.purl_core.specs.declared.fault.PurlFault.{PurlFault}
 use Rattle.purl_core.specs.declared.fault.PurlFault.TheVariants.{Scheme, BadType, Name, Escape, NotText, Qualifier, DuplicateKey, NoMemory}
 use Rattle.purl_core.proofs.PartLaws.{one_written}
 use Rattle.purl_core.proofs.OneValue.{one_piece}
 use Rattle.purl_core.proofs.SoFar.{first_value}
-use Rattle.purl_core.proofs.Assembled.{bytes_of, bytes_placed, valued_more}
+use Rattle.purl_core.proofs.Assembled.{bytes_placed, valued_more}
 
 module _ (P : List ℕ → Type 0) where
   abbrev Each : List (ℕ × List ℕ) → Type 0
@@ -25,12 +25,12 @@ module _ (P : List ℕ → Type 0) where
   each_append [] ys p q = q
   each_append (x ∷ xs) ys p q = (p.0, each_append xs ys p.1 q)
 
-  kept_each : (at : ℕ) (xs : List (List ℕ)) → AllByRecursion P (kept xs) → Each (places at xs)
+  kept_each : (at : ℕ) (xs : List (List ℕ)) → AllByRecursion P (kept_parts xs) → Each (places at xs)
   kept_each at [] all = tt
   kept_each at ([] ∷ xs) all = kept_each (at + 1) xs all
   kept_each at ((b ∷ x) ∷ xs) all = (all.0, kept_each (at + length (b ∷ x) + 1) xs all.1)
 
-  piece_each : (at mark : ℕ) (x : Option (List ℕ)) → AllByRecursion P (pieces mark x) → Each (placed at mark x)
+  piece_each : (at mark : ℕ) (x : Option (List ℕ)) → AllByRecursion P (pieces mark x) → Each (placed_parts at mark x)
   piece_each at mark None all = tt
   piece_each at mark (Some text) all = kept_each at (slice_split (λ b. eqb b mark) text) all
 
@@ -50,7 +50,7 @@ module _ (P : List ℕ → Type 0) where
   each_component : (p : Parts) (pairs : List (List ℕ × List ℕ)) → AllByRecursion P (pieces 47 (Some p.path)) → AllByRecursion P (not_empty p.version) → ArePieces (pieces 38 p.qualifiers) pairs
       → AllByRecursion (λ (pair : List ℕ × List ℕ). P pair.1) pairs → AllByRecursion P (pieces 47 p.subpath) → Each (components p)
   each_component p pairs path version are good subpath =
-      each_append (placed (path_at p) 47 (Some p.path)) _ (piece_each (path_at p) 47 (Some p.path) path)
+      each_append (placed_parts (path_at p) 47 (Some p.path)) _ (piece_each (path_at p) 47 (Some p.path) path)
       (each_append (placed_whole (version_at p) p.version) _ (whole_each (version_at p) p.version version)
       (each_append (values (pieces_of p)) _
       (values_each (pieces_of p) pairs (subst (λ l. ArePieces l pairs) (sym (bytes_placed (qualifiers_at p) 38 p.qualifiers)) are) good)
@@ -98,7 +98,7 @@ no_bad (part ∷ parts) (pair ∷ pairs) at (inr h) are = no_bad parts pairs at 
 
 -- the pairs with their places are those without
 valued_are : (parts : List (ℕ × List ℕ)) (keyed : List (ℕ × (List ℕ × List ℕ))) (pairs : List (List ℕ × List ℕ)) → AreKeyed parts keyed → ArePieces (bytes_of parts) pairs
-    → valued pairs ≡ without_places keyed
+    → valued_pairs pairs ≡ without_places keyed
 valued_are [] keyed [] k are = sym (ap without_places k)
 valued_are [] keyed (pair ∷ pairs) k are = absurd are
 valued_are (part ∷ parts) keyed [] k are = absurd are
@@ -122,10 +122,10 @@ no_duplicate keyed at dup all =
     ap without_places dup.split ∙ map-append (λ (entry : ℕ × (List ℕ × List ℕ)). entry.1) dup.before ((at, dup.pair) ∷ dup.behind) in
     not_twice (without_places dup.before) dup.pair (without_places dup.behind) (subst Distinct split all) dup.twice
 
-pub with_scheme : (text : List ℕ) (p : Parts) → IsWritten text p → WithScheme text
+pub with_scheme : (text : List ℕ) (p : Parts) → IsPurlWritten text p → WithScheme text
 with_scheme text p w = record { body = w.body; qualifiers = p.qualifiers; subpath = p.subpath; scheme = p.scheme; rest = w.rest; ended = w.ended; scheme_is = w.scheme_is }
 
-pub with_type : (text : List ℕ) (p : Parts) → IsWritten text p → WithType text
+pub with_type : (text : List ℕ) (p : Parts) → IsPurlWritten text p → WithType text
 with_type text p w = record {
   body = w.body;
   qualifiers = p.qualifiers;

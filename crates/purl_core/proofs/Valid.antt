@@ -9,10 +9,10 @@ use Rattle.std.proofs.lemmas.Str.Ascii.{lowercase-lowercase}
 use Rattle.percent_encoding.specs.Percent.{percent_decode}
 use Rattle.percent_encoding.proofs.PercentLemmas.{length-percent_decode, All-percent_decode}
 use Rattle.vx_spec.specs.Marks.{marked}
-use Rattle.purl_core.specs.Grammar.{is_kind, is_kind_byte, kept}
+use Rattle.purl_core.specs.Grammar.{is_kind, is_kind_byte, kept_parts}
 use Rattle.purl_core.specs.Value.{Package, IsValid, IsPart, IsPair, IsSegment, IsVersion, is_key, is_key_byte, is_dots}
 use Rattle.vx_text.specs.Folding.{lowered}
-use Rattle.purl_core.specs.Spelling.{IsDecodable, pieces, not_empty, listed, IsPiece, ArePieces, valued, Member, SpellsPurl}
+use Rattle.purl_core.specs.Spelling.{IsDecodable, pieces, not_empty, listed_version, IsPiece, ArePieces, valued_pairs, Member, SpellsPurl}
 
 abbrev Bytes : List ℕ → Type 0
 Bytes text = AllByRecursion (λ b. b < 256) text
@@ -40,7 +40,7 @@ split_bytes c (b ∷ text) all = elim (cases_Bool (eqb b c)) [
 abbrev Raw : List ℕ → Type 0
 Raw text = (text ≢ []) × Bytes text
 
-kept_raw : (xs : List (List ℕ)) → AllByRecursion Bytes xs → AllByRecursion Raw (kept xs)
+kept_raw : (xs : List (List ℕ)) → AllByRecursion Bytes xs → AllByRecursion Raw (kept_parts xs)
 kept_raw [] all = tt
 kept_raw ([] ∷ xs) all = kept_raw xs all.1
 kept_raw ((b ∷ x) ∷ xs) all = (((λ e. cc e), all.0), kept_raw xs all.1)
@@ -103,14 +103,14 @@ pair_of piece pair bytes is good some = record {
   value = part_of pair.1 (some, (back_bytes pair.0 (61 ∷ pair.1) (subst Bytes is.joined bytes)).1) good;
 }
 
-valued_pairs : (ps : List (List ℕ)) (pairs : List (List ℕ × List ℕ)) → AllByRecursion Raw ps → ArePieces ps pairs
-    → AllByRecursion (λ (pair : List ℕ × List ℕ). IsDecodable pair.1) pairs → AllByRecursion IsPair (valued pairs)
-valued_pairs [] [] raw are good = tt
-valued_pairs [] (x ∷ xs) raw are good = absurd are
-valued_pairs (p ∷ ps) [] raw are good = absurd are
-valued_pairs (p ∷ ps) ((key, []) ∷ xs) raw are good = valued_pairs ps xs raw.1 are.1 good.1
-valued_pairs (p ∷ ps) ((key, b ∷ value) ∷ xs) raw are good =
-    (pair_of p (key, b ∷ value) raw.0.1 are.0 good.0 (λ e. cc e), valued_pairs ps xs raw.1 are.1 good.1)
+each_pair_valid : (ps : List (List ℕ)) (pairs : List (List ℕ × List ℕ)) → AllByRecursion Raw ps → ArePieces ps pairs
+    → AllByRecursion (λ (pair : List ℕ × List ℕ). IsDecodable pair.1) pairs → AllByRecursion IsPair (valued_pairs pairs)
+each_pair_valid [] [] raw are good = tt
+each_pair_valid [] (x ∷ xs) raw are good = absurd are
+each_pair_valid (p ∷ ps) [] raw are good = absurd are
+each_pair_valid (p ∷ ps) ((key, []) ∷ xs) raw are good = each_pair_valid ps xs raw.1 are.1 good.1
+each_pair_valid (p ∷ ps) ((key, b ∷ value) ∷ xs) raw are good =
+    (pair_of p (key, b ∷ value) raw.0.1 are.0 good.0 (λ e. cc e), each_pair_valid ps xs raw.1 are.1 good.1)
 
 member_of : (P : List ℕ × List ℕ → Type 0) (ys : List (List ℕ × List ℕ)) (x : List ℕ × List ℕ) → AllByRecursion P ys → Member x ys → P x
 member_of P [] x all m = absurd m
@@ -127,7 +127,7 @@ last_part : (xs : List (List ℕ)) (x : List ℕ) → AllByRecursion IsPart (xs 
 last_part [] x all = (tt, all.0)
 last_part (a ∷ xs) x all = let r = last_part xs x all.1 in ((all.0, r.0), r.1)
 
-version_of : (v : Option (List ℕ)) → AllByRecursion IsPart (listed v) → IsVersion v
+version_of : (v : Option (List ℕ)) → AllByRecursion IsPart (listed_version v) → IsVersion v
 version_of None all = tt
 version_of (Some v) all = all.0
 
@@ -167,14 +167,14 @@ valid text p bytes s =
     let path = front_bytes r.path (marked 64 r.version) version in
     let path_raw = pieces_raw 47 (Some r.path) (λ t e. let f : r.path ≡ t = cc e in subst Bytes f path) in
     let parts = last_part p.namespace p.name (subst (AllByRecursion IsPart) (sym v.path) (parts_of (pieces 47 (Some r.path)) path_raw v.path_good)) in
-    let pairs = valued_pairs (pieces 38 r.qualifiers) v.pairs (pieces_raw 38 r.qualifiers (marked_bytes w.body 63 r.qualifiers query)) v.pairs_are v.values_good in
+    let pairs = each_pair_valid (pieces 38 r.qualifiers) v.pairs (pieces_raw 38 r.qualifiers (marked_bytes w.body 63 r.qualifiers query)) v.pairs_are v.values_good in
     record {
       kind = rw v.kind (kind_low r.kind w.type_is.form);
       kind_low = rw v.kind (low_low r.kind);
       namespace = parts.0;
       name = parts.1;
       version = version_of p.version (subst (AllByRecursion IsPart) (sym v.version) (parts_of (not_empty r.version) (version_raw r.version (marked_bytes r.path 64 r.version version)) v.version_good));
-      pairs = all_members IsPair p.qualifiers (λ x m. member_of IsPair (valued v.pairs) x pairs ((v.qualifiers x).0 m));
+      pairs = all_members IsPair p.qualifiers (λ x m. member_of IsPair (valued_pairs v.pairs) x pairs ((v.qualifiers x).0 m));
       ascending = v.ascending;
       subpath = subst (AllByRecursion IsSegment) (sym v.subpath)
           (segments (map percent_decode (pieces 47 r.subpath)) (parts_of (pieces 47 r.subpath) (pieces_raw 47 r.subpath (marked_bytes w.ended.front 35 r.subpath sub)) v.subpath_good));

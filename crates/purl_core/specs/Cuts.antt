@@ -1,16 +1,6 @@
--- Cuts of a text from the right.
+-- Where the version of a package URL begins (ECMA-427, parsing a package URL string from its right).
 use Rattle.std.specs.Prelude.{◌≡◌, ◌≢◌, ℕ, List, [], ◌∷◌, ◌++◌, Option, Some, None, ⊤}
-use Rattle.vx_spec.specs.Marks.{Lacks, marked}
-
--- what stands last: what is behind the mark, or all where there is no mark
-abbrev pub last_part : List ℕ → Option (List ℕ) → List ℕ
-last_part front None = front
-last_part front (Some part) = part
-
--- the text is the front and what stands behind the mark, and the last part lacks the mark
-pub record IsLastCut (mark : ℕ) (text front : List ℕ) (behind : Option (List ℕ)) : Type 0 where
-  pub joined : text ≡ front ++ marked mark behind
-  pub last : Lacks mark (last_part front behind)
+use Rattle.vx_spec.specs.Marks.{marked}
 
 -- the last byte of the text, or the byte before it where it is empty
 abbrev pub last_of : ℕ → List ℕ → ℕ

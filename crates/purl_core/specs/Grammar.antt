@@ -1,10 +1,10 @@
--- The raw parts of the text of a package URL, from the whole text inwards.
-use Rattle.std.specs.Prelude.{◌≡◌, ◌≢◌, ◌||◌, ◌&&◌, ◌==◌, ℕ, Bool, true, false, List, [], ◌∷◌, ◌++◌, Option, Some}
+-- The raw parts of the text of a package URL, from the whole text inwards (ECMA-427, the syntax of a package URL string).
+use Rattle.std.specs.Prelude.{◌≡◌, ◌≢◌, ◌||◌, ◌&&◌, ◌==◌, ℕ, Bool, true, false, List, [], ◌∷◌, ◌++◌, Option, Some, codes}
 use Rattle.std.specs.List.{AllByRecursion, slice_split, list_all}
 use Rattle.std.specs.Char.{is_ascii_alphabetic, is_ascii_alphanumeric}
-use Rattle.vx_spec.specs.Marks.{marked}
+use Rattle.vx_spec.specs.Marks.{IsLastCut, marked}
 use Rattle.vx_text.specs.Folding.{lowered}
-use Rattle.purl_core.specs.Cuts.{IsLastCut, IsVersionCut}
+use Rattle.purl_core.specs.Cuts.{IsVersionCut}
 
 -- the text is a body, and behind it qualifiers and a subpath where there are such: '#' is 35 and '?' is 63
 pub record IsEnded (text body : List ℕ) (qualifiers subpath : Option (List ℕ)) : Type 0 where
@@ -12,10 +12,10 @@ pub record IsEnded (text body : List ℕ) (qualifiers subpath : Option (List ℕ
   pub subpath_cut : IsLastCut 35 text front subpath
   pub qualifiers_cut : IsLastCut 63 front body qualifiers
 
--- the body is 'pkg' in any case of letters, ':' and the rest
+-- the body is 'pkg' in any case of letters, ':', which is 58, and the rest
 pub record HasScheme (body scheme rest : List ℕ) : Type 0 where
   pub joined : body ≡ scheme ++ 58 ∷ rest
-  pub form : lowered scheme ≡ 112 ∷ 107 ∷ 103 ∷ []
+  pub form : lowered scheme ≡ codes "pkg"
 
 -- an ASCII letter or digit, '.', '+' or '-'
 abbrev pub is_kind_byte : ℕ → Bool
@@ -26,7 +26,7 @@ abbrev pub is_kind : List ℕ → Bool
 is_kind [] = false
 is_kind (b ∷ text) = is_ascii_alphabetic b && list_all is_kind_byte text
 
--- the rest is any number of '/', a type, and what stands behind the next '/', where there is one
+-- the rest is any number of '/', which is 47, a type, and what stands behind the next '/', where there is one
 pub record HasType (rest slashes kind : List ℕ) (behind : Option (List ℕ)) : Type 0 where
   pub joined : rest ≡ slashes ++ (kind ++ marked 47 behind)
   pub slashes_are : AllByRecursion (λ b. b ≡ 47) slashes
@@ -37,14 +37,14 @@ abbrev pub between : List ℕ → List (List ℕ)
 between path = slice_split (λ b. b == 47) path
 
 -- the parts that are not empty
-abbrev pub kept : List (List ℕ) → List (List ℕ)
-kept [] = []
-kept ([] ∷ parts) = kept parts
-kept ((b ∷ part) ∷ parts) = (b ∷ part) ∷ kept parts
+abbrev pub kept_parts : List (List ℕ) → List (List ℕ)
+kept_parts [] = []
+kept_parts ([] ∷ parts) = kept_parts parts
+kept_parts ((b ∷ part) ∷ parts) = (b ∷ part) ∷ kept_parts parts
 
 -- the path has a segment that is not empty
 abbrev pub HasSegment : List ℕ → Type 0
-HasSegment path = kept (between path) ≢ []
+HasSegment path = kept_parts (between path) ≢ []
 
 -- the raw parts, as they stand in the text
 pub record Parts : Type 0 where
@@ -57,7 +57,7 @@ pub record Parts : Type 0 where
   pub subpath : Option (List ℕ)
 
 -- The text is written of the raw parts.
-pub record IsWritten (text : List ℕ) (p : Parts) : Type 0 where
+pub record IsPurlWritten (text : List ℕ) (p : Parts) : Type 0 where
   pub body : List ℕ
   pub rest : List ℕ
   pub behind : List ℕ

@@ -1,12 +1,8 @@
 pub mod Cuts
-pub mod Cutting
 pub mod Grammar
-pub mod Pairing
 pub mod Places
-pub mod Placing
 pub mod Printed
 pub mod Reading
-pub mod Reads
 pub mod Spelling
+pub mod Steps
 pub mod Value
-pub mod Written

@@ -1,5 +1,5 @@
--- Where the parts of a text stand, and where the first of them is refused.
-use Rattle.std.specs.Prelude.{◌≡◌, ◌==◌, ◌+◌, ◌⊎◌, ◌++◌, ℕ, if◌then◌else◌, List, [], ◌∷◌, length, map, Option, Some, None, ⊤, IsUtf8}
+-- Where the parts of a text stand, and where the first of them is refused (ECMA-427, parsing a package URL string).
+use Rattle.std.specs.Prelude.{◌≡◌, ◌==◌, ◌+◌, ◌⊎◌, ◌++◌, ℕ, if◌then◌else◌, List, [], ◌∷◌, length, map, Option, Some, None, IsUtf8}
 use Rattle.std.specs.List.{AllByRecursion, slice_split}
 use Rattle.vx_text.specs.Escapes.{IsWhole, IsFirstBroken, unescaped}
 use Rattle.vx_text.specs.Folding.{lowered}
@@ -13,9 +13,9 @@ places at ([] ∷ parts) = places (at + 1) parts
 places at ((b ∷ part) ∷ parts) = (at, b ∷ part) ∷ places (at + length (b ∷ part) + 1) parts
 
 -- the parts between the marks that are not empty, where there is such a text
-abbrev pub placed : ℕ → ℕ → Option (List ℕ) → List (ℕ × List ℕ)
-placed at mark None = []
-placed at mark (Some text) = places at (slice_split (λ b. b == mark) text)
+abbrev pub placed_parts : ℕ → ℕ → Option (List ℕ) → List (ℕ × List ℕ)
+placed_parts at mark None = []
+placed_parts at mark (Some text) = places at (slice_split (λ b. b == mark) text)
 
 -- a text that is one part, where there is one and it is not empty
 abbrev pub placed_whole : ℕ → Option (List ℕ) → List (ℕ × List ℕ)
@@ -57,31 +57,50 @@ subpath_at p = path_at p + length p.path + with_sign p.version + with_sign p.qua
 
 -- the pieces of the qualifiers
 abbrev pub pieces_of : Parts → List (ℕ × List ℕ)
-pieces_of p = placed (qualifiers_at p) 38 p.qualifiers
+pieces_of p = placed_parts (qualifiers_at p) 38 p.qualifiers
 
 -- the segments of the path, the version, the values and the segments of the subpath, in their order
 abbrev pub components : Parts → List (ℕ × List ℕ)
-components p = placed (path_at p) 47 (Some p.path) ++ (placed_whole (version_at p) p.version ++ (values (pieces_of p) ++ placed (subpath_at p) 47 p.subpath))
+components p = placed_parts (path_at p) 47 (Some p.path) ++ (placed_whole (version_at p) p.version ++ (values (pieces_of p) ++ placed_parts (subpath_at p) 47 p.subpath))
 
 -- ---- what is refused
 
+-- each part passes
+abbrev pub AllPass : (List ℕ → Type 0) → List (ℕ × List ℕ) → Type 0
+AllPass Passes parts = AllByRecursion (λ (part : ℕ × List ℕ). Passes part.1) parts
+
+-- the first part that does not pass fails at this place
+abbrev pub IsFirstAt : (List ℕ → Type 0) → (ℕ × List ℕ → ℕ → Type 0) → List (ℕ × List ℕ) → ℕ → Type 0
+IsFirstAt Passes FailsAt [] at = ⊥
+IsFirstAt Passes FailsAt (part ∷ parts) at = FailsAt part at ⊎ (Passes part.1 × IsFirstAt Passes FailsAt parts at)
+
+-- the first '%' of the part that two hexadecimal digits do not follow stands at this place
+abbrev pub IsBrokenAt : ℕ × List ℕ → ℕ → Type 0
+IsBrokenAt part at = (k : ℕ) × IsFirstBroken part.1 k × (at ≡ part.0 + k)
+
 -- the first '%' of the parts that two hexadecimal digits do not follow stands at this place
 abbrev pub IsEscapeAt : List (ℕ × List ℕ) → ℕ → Type 0
-IsEscapeAt [] at = ⊥
-IsEscapeAt (part ∷ parts) at = ((k : ℕ) × IsFirstBroken part.1 k × (at ≡ part.0 + k)) ⊎ (IsWhole part.1 × IsEscapeAt parts at)
+IsEscapeAt parts at = IsFirstAt IsWhole IsBrokenAt parts at
 
 -- no '%' is broken
 abbrev pub AllWhole : List (ℕ × List ℕ) → Type 0
-AllWhole parts = AllByRecursion (λ (part : ℕ × List ℕ). IsWhole part.1) parts
+AllWhole parts = AllPass IsWhole parts
+
+-- the part stands for UTF-8
+abbrev pub IsText : List ℕ → Type 0
+IsText raw = IsUtf8 (unescaped raw)
+
+-- the part begins at this place and does not stand for UTF-8
+abbrev pub IsOtherAt : ℕ × List ℕ → ℕ → Type 0
+IsOtherAt part at = ¬ (IsText part.1) × (at ≡ part.0)
 
 -- the first part that does not stand for UTF-8 begins at this place
 abbrev pub IsNotTextAt : List (ℕ × List ℕ) → ℕ → Type 0
-IsNotTextAt [] at = ⊥
-IsNotTextAt (part ∷ parts) at = (¬ (IsUtf8 (unescaped part.1)) × (at ≡ part.0)) ⊎ (IsUtf8 (unescaped part.1) × IsNotTextAt parts at)
+IsNotTextAt parts at = IsFirstAt IsText IsOtherAt parts at
 
 -- each part stands for UTF-8
 abbrev pub AllText : List (ℕ × List ℕ) → Type 0
-AllText parts = AllByRecursion (λ (part : ℕ × List ℕ). IsUtf8 (unescaped part.1)) parts
+AllText parts = AllPass IsText parts
 
 -- the piece is no key, '=' and value
 abbrev pub NoPiece : List ℕ → Type 0
@@ -93,13 +112,15 @@ HasPiece piece = (pair : List ℕ × List ℕ) × IsPiece piece pair
 
 -- each piece is one
 abbrev pub AllPieces : List (ℕ × List ℕ) → Type 0
-AllPieces [] = ⊤
-AllPieces (piece ∷ pieces) = HasPiece piece.1 × AllPieces pieces
+AllPieces pieces = AllPass HasPiece pieces
+
+-- the piece begins at this place and is none
+abbrev pub IsNoneAt : ℕ × List ℕ → ℕ → Type 0
+IsNoneAt piece at = NoPiece piece.1 × (at ≡ piece.0)
 
 -- the first piece that is none begins at this place
 abbrev pub IsBadPieceAt : List (ℕ × List ℕ) → ℕ → Type 0
-IsBadPieceAt [] at = ⊥
-IsBadPieceAt (piece ∷ pieces) at = (NoPiece piece.1 × (at ≡ piece.0)) ⊎ (HasPiece piece.1 × IsBadPieceAt pieces at)
+IsBadPieceAt pieces at = IsFirstAt HasPiece IsNoneAt pieces at
 
 -- the pair has a value that is not empty: with its place, the key in lower case and the value decoded
 abbrev pub keyed_pair : ℕ → List ℕ × List ℕ → List (ℕ × (List ℕ × List ℕ))

@@ -1,5 +1,5 @@
--- A package URL as a value: all its texts are decoded.
-use Rattle.std.specs.Prelude.{◌≡◌, ◌≢◌, ◌||◌, ◌&&◌, ◌==◌, ◌<◌, ℕ, Bool, true, false, List, [], ◌∷◌, ◌++◌, Option, Some, None, ⊤, IsUtf8}
+-- A package URL as a value: all its texts are decoded (ECMA-427, the components of a package URL).
+use Rattle.std.specs.Prelude.{◌≡◌, ◌≢◌, ◌||◌, ◌&&◌, ◌==◌, ◌<◌, ℕ, Bool, true, false, List, [], ◌∷◌, ◌++◌, Option, Some, None, ⊤, IsUtf8, bytes_eq, codes}
 use Rattle.std.specs.List.{AllByRecursion, list_all}
 use Rattle.std.specs.declared.cmp.Ordering.TheVariants.{Less}
 use Rattle.std.specs.Ordering.{nat_cmp}
@@ -31,12 +31,8 @@ abbrev pub is_key : List ℕ → Bool
 is_key [] = false
 is_key (b ∷ text) = is_ascii_alphabetic b && list_all is_key_byte text
 
--- '.' or '..'
 abbrev pub is_dots : List ℕ → Bool
-is_dots [] = false
-is_dots (b ∷ []) = b == 46
-is_dots (b ∷ c ∷ []) = (b == 46) && (c == 46)
-is_dots (b ∷ c ∷ d ∷ text) = false
+is_dots text = bytes_eq text (codes ".") || bytes_eq text (codes "..")
 
 -- a text in UTF-8 that is not empty
 pub record IsPart (text : List ℕ) : Type 0 where

@@ -1,30 +1,11 @@
 ghost use Rattle.std.specs.Prelude.{◌≡◌, ◌≢◌, ◌==◌, ◌<◌, ◌-◌, ◌↔◌, ℕ, length, slice_index, map, IsTrue, List, not, Option, Some, None, MatchOption};
 ghost use Rattle.std.specs.Option.{option_copied};
-ghost use Rattle.std.specs.List.{list_all, list_any, prefix_len};
-ghost use Rattle.vx_spec.specs.Marks.{IsCut};
-ghost use Rattle.purl_core.specs.Cuts.{IsLastCut, IsVersionCut};
+ghost use Rattle.std.specs.List.{list_all, list_any};
+ghost use Rattle.purl_core.specs.Cuts.{IsVersionCut};
 ghost use Rattle.purl_core.specs.Grammar.{is_kind_byte, is_kind, IsEnded, HasScheme, HasType, HasSegment};
-ghost use Rattle.purl_core.specs.Cutting.{IsCutAs};
+ghost use Rattle.purl_core.specs.Steps.Cutting.{IsPurlCut};
 
-/// The text before the last mark, and the text behind it.
-fn last_cut(text: &[u8], mark: u8) -> (&[u8], Option<&[u8]>)
-    ensures { IsLastCut mark text.now result.0.now (option_copied result.1) }
-{
-    match text.iter().rposition(|byte| *byte == mark) {
-        Some(at) => (&text[..at], Some(&text[at + 1..])),
-        None => (text, None),
-    }
-}
-
-/// The text before the first mark, and the text behind it.
-pub(crate) fn cut(text: &[u8], mark: u8) -> (&[u8], Option<&[u8]>)
-    ensures { IsCut mark text.now result.0.now (option_copied result.1) }
-{
-    match text.iter().position(|byte| *byte == mark) {
-        Some(at) => (&text[..at], Some(&text[at + 1..])),
-        None => (text, None),
-    }
-}
+use vx_text::{ByteClass, cut_bytes, cut_run, last_cut};
 
 /// Whether an '@' stands at this place that is not directly behind a '/'.
 fn counts(text: &[u8], at: usize) -> bool
@@ -76,10 +57,15 @@ fn is_kind(text: &[u8]) -> bool
     }
 }
 
-fn leading_slashes(text: &[u8]) -> usize
-    ensures { result ≡ prefix_len (λ b. b == 47) text.now }
-{
-    text.iter().take_while(|byte| **byte == b'/').count()
+/// The slash.
+struct Slashes;
+
+impl ByteClass for Slashes {
+    ghost holds = { λ b. b == 47 };
+
+    fn is_one(byte: u8) -> bool {
+        byte == b'/'
+    }
 }
 
 /// Why a text is not cut.
@@ -103,7 +89,7 @@ pub(crate) struct Raw<'a> {
 }
 
 /// The body, the qualifiers and the subpath.
-fn ended(text: &[u8]) -> (&[u8], Option<&[u8]>, Option<&[u8]>)
+fn cut_ends(text: &[u8]) -> (&[u8], Option<&[u8]>, Option<&[u8]>)
     ensures { IsEnded text.now result.0.now (option_copied result.1) (option_copied result.2) }
 {
     let (front, subpath) = last_cut(text, b'#');
@@ -112,10 +98,10 @@ fn ended(text: &[u8]) -> (&[u8], Option<&[u8]>, Option<&[u8]>)
 }
 
 /// The scheme and what stands behind its ':'.
-fn schemed(body: &[u8]) -> Option<(&[u8], &[u8])>
+fn cut_scheme(body: &[u8]) -> Option<(&[u8], &[u8])>
     ensures { MatchOption result ((scheme rest : List ℕ) → ¬ (HasScheme body.now scheme rest)) (λ p. HasScheme body.now p.0.now p.1.now) }
 {
-    let (scheme, behind) = cut(body, b':');
+    let (scheme, behind) = cut_bytes(body, b':');
     let Some(rest) = behind else {
         return None;
     };
@@ -127,14 +113,13 @@ fn schemed(body: &[u8]) -> Option<(&[u8], &[u8])>
 }
 
 /// The slashes, the type, and what stands behind the next slash.
-fn typed(rest: &[u8]) -> Option<(&[u8], &[u8], Option<&[u8]>)>
+fn cut_type(rest: &[u8]) -> Option<(&[u8], &[u8], Option<&[u8]>)>
     ensures { MatchOption result
         ((slashes kind : List ℕ) (behind : Option (List ℕ)) → ¬ (HasType rest.now slashes kind behind))
         (λ p. HasType rest.now p.0.now p.1.now (option_copied p.2)) }
 {
-    let count = leading_slashes(rest);
-    let (slashes, text) = rest.split_at(count);
-    let (kind, behind) = cut(text, b'/');
+    let (slashes, text) = cut_run::<Slashes>(rest);
+    let (kind, behind) = cut_bytes(text, b'/');
     if is_kind(kind) {
         Some((slashes, kind, behind))
     } else {
@@ -157,13 +142,13 @@ fn has_segment(path: &[u8]) -> bool
 
 /// The raw parts of a text.
 pub(crate) fn cut_raw(text: &[u8]) -> Result<Raw<'_>, CutFault>
-    ensures { IsCutAs text.now result }
+    ensures { IsPurlCut text.now result }
 {
-    let (body, qualifiers, subpath) = ended(text);
-    let Some((scheme, rest)) = schemed(body) else {
+    let (body, qualifiers, subpath) = cut_ends(text);
+    let Some((scheme, rest)) = cut_scheme(body) else {
         return Err(CutFault::Scheme);
     };
-    let Some((slashes, kind, behind)) = typed(rest) else {
+    let Some((slashes, kind, behind)) = cut_type(rest) else {
         return Err(CutFault::BadType);
     };
     let Some(behind) = behind else {

@@ -1,29 +1,33 @@
 ghost use Rattle.std.specs.Prelude.{◌≡◌, map, IfOk, IsUtf8, string_bytes};
 ghost use Rattle.vx_text.specs.Escapes.{unescaped};
 ghost use Rattle.vx_text.specs.Folding.{lowered};
-ghost use Rattle.purl_core.specs.Value.{Ascending, is_key, pair_view};
-ghost use Rattle.purl_core.specs.Places.{AllPieces, AllText, HasPiece, value_in, values};
-ghost use Rattle.purl_core.specs.Placing.{part_view};
-ghost use Rattle.purl_core.specs.Pairing.{IsPaired, PutsPair, PutsPiece, entry_view};
+ghost use Rattle.purl_core.specs.Value.{Ascending, pair_view};
+ghost use Rattle.purl_core.specs.Places.{AllPieces, AllText, HasPiece, IsText, value_in, values};
+ghost use Rattle.purl_core.specs.Steps.Placing.{IsWithin, left, part_view};
+ghost use Rattle.purl_core.specs.Steps.Pairing.{IsPaired, PutsPair, PutsPiece, entry_view};
 
+use crate::checking::cut_piece;
+use crate::decoding::decode;
 use crate::fault::PurlFault;
-use crate::placing::{Part, piece_cut};
+use crate::placing::{Part, Walk};
 use crate::value::{Pair, Pairs};
-use percent_encoding::percent_decode;
 use std::alloc::Global;
 use std::collections::BTreeMap;
+use std::str;
 use vx_scheme::{NoMemory, Text};
 
 /// The qualifiers of the pieces, in the order of their keys, or where the first key stands twice. Pairs without a
-/// value are left out.
-pub(crate) fn paired(alloc: Global, pieces: &[Part]) -> Result<Pairs, PurlFault>
-    requires good { AllPieces (map part_view pieces.now) }
-    requires text { AllText (values (map part_view pieces.now)) }
-    ensures { IsPaired (map part_view pieces.now) result }
+/// value are left out. It takes no memory where there is no pair.
+pub(crate) fn read_pairs(alloc: Global, pieces: Walk) -> Result<Pairs, PurlFault>
+    requires within { IsWithin pieces }
+    requires good { AllPieces (left pieces) }
+    requires text { AllText (values (left pieces)) }
+    ensures { IsPaired (left pieces.entry) result }
 {
+    let mut walk = pieces;
     let mut found: BTreeMap<String, Text> = BTreeMap::new(alloc);
-    for piece in pieces {
-        let twice = put_piece(alloc, &mut found, *piece)?;
+    'pieces: while let Some(piece) = walk.next_part() {
+        let twice = put_piece(alloc, &mut found, piece)?;
         if twice {
             return Err(PurlFault::DuplicateKey(piece.at));
         }
@@ -41,8 +45,8 @@ fn put_piece(
     requires text { AllText (value_in piece.at piece.bytes.now) }
     ensures { IfOk result (λ twice. PutsPiece (map entry_view found.old.entries) (map entry_view found.new.entries) (part_view piece.entry) twice) }
 {
-    let Some((key, value)) = piece_cut(piece.bytes) else {
-        return Ok(false);
+    let Some((key, value)) = cut_piece(piece.bytes) else {
+        unreachable!();
     };
     if value.is_empty() {
         return Ok(false);
@@ -57,11 +61,13 @@ fn put_pair(
     value: &[u8],
 ) -> Result<bool, NoMemory>
     requires key { IsUtf8 key.now }
-    requires text { IsUtf8 (unescaped value.now) }
+    requires text { IsText value.now }
     ensures { IfOk result (λ twice. PutsPair (map entry_view found.old.entries) (map entry_view found.new.entries) (lowered key.now, unescaped value.now) twice) }
 {
     let low = low_key(alloc, key)?;
-    let plain = decoded(alloc, value)?;
+    let Some(plain) = decode(alloc, value)? else {
+        unreachable!();
+    };
     match found.insert(low, plain) {
         Ok(old) => Ok(old.is_some()),
         Err(_) => Err(NoMemory),
@@ -74,18 +80,7 @@ fn low_key(alloc: Global, key: &[u8]) -> Result<String, NoMemory>
 {
     match str::from_utf8(key) {
         Ok(text) => Ok(text.to_ascii_lowercase(alloc)?),
-        Err(_) => Err(NoMemory),
-    }
-}
-
-/// The text that the bytes stand for.
-pub(crate) fn decoded(alloc: Global, bytes: &[u8]) -> Result<Text, NoMemory>
-    requires { IsUtf8 (unescaped bytes.now) }
-    ensures { IfOk result (λ text. text ≡ unescaped bytes.now) }
-{
-    match percent_decode(bytes).decode_utf8(alloc) {
-        Ok(plain) => Ok(Text::from_string(plain.into_owned(alloc)?)),
-        Err(_) => Err(NoMemory),
+        Err(_) => unreachable!(),
     }
 }
 
@@ -95,7 +90,7 @@ fn in_order(alloc: Global, found: BTreeMap<String, Text>) -> Result<Pairs, NoMem
     ensures { IfOk result (λ pairs. map pair_view pairs ≡ map entry_view found.entries) }
 {
     let mut found = found;
-    let mut pairs = Pairs::new(alloc);
+    let mut pairs = Pairs::with_room(alloc, found.len())?;
     'entries: while let Some((key, value)) = found.pop_first() {
         let key = Text::from_string(key);
         pairs.push(Pair { key, value })?;

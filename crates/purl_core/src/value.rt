@@ -1,4 +1,4 @@
-ghost use Rattle.std.specs.Prelude.{◌≡◌, ◌↔◌, ◌<◌, [], ◌∷◌, ◌++◌, map, OnOk, OnErr, MatchOption, IsTrue, Some, length, slice_get};
+ghost use Rattle.std.specs.Prelude.{◌≡◌, ◌↔◌, ◌<◌, [], ◌∷◌, ◌++◌, map, IfOk, OnOk, OnErr, MatchOption, IsTrue, Some, length, slice_get};
 
 use std::alloc::Global;
 use std::marker::Model;
@@ -44,6 +44,15 @@ impl Pairs {
         Pairs {
             list: List::new(alloc),
         }
+    }
+
+    /// The empty list, with room for so many pairs.
+    pub fn with_room(alloc: Global, count: usize) -> Result<Pairs, NoMemory>
+        ensures { IfOk result (λ pairs. pairs ≡ []) }
+    {
+        Ok(Pairs {
+            list: List::with_room(alloc, count)?,
+        })
     }
 
     /// How many pairs there are.

@@ -1,143 +1,174 @@
-ghost use Rattle.std.specs.Prelude.{◌≡◌, ◌++◌, [], ◌∷◌, map, OnOk, OnErr};
+ghost use Rattle.std.specs.Prelude.{◌≡◌, ◌++◌, [], ◌∷◌, map, codes, IfOk, OnOk, OnErr};
 ghost use Rattle.std.specs.Option.{option_map};
-ghost use Rattle.std.specs.List.{join_with_byte};
 ghost use Rattle.vx_spec.specs.Marks.{marked};
 ghost use Rattle.vx_text.specs.Escapes.{escaped};
 ghost use Rattle.purl_core.specs.Value.{IsValid, Package, pair_view};
-ghost use Rattle.purl_core.specs.Printed.{joined, pair_text, purl_text};
+ghost use Rattle.purl_core.specs.Printed.{pair_text, purl_text};
 ghost use Rattle.purl_core.specs.Spelling.{SpellsPurl};
-ghost use Rattle.purl_core.specs.Written.{before, behind};
+ghost use Rattle.purl_core.specs.Steps.Written.{IsGrown, signed_pairs, signed_segments};
 
 use crate::value::{Pair, Purl};
+use percent_encoding::{AsciiSet, NON_ALPHANUMERIC, ascii_set, utf8_percent_encode};
+use std::alloc::Global;
 use vx_scheme::{NoMemory, Text};
-use vx_text::escape;
 
-/// Appends the text of a package URL, which is read again as the same. A refused call leaves `out` as it was.
+/// Every ASCII byte but letters, digits and `. - _ ~ :`.
+const ESCAPED: AsciiSet = ascii_set!(
+    NON_ALPHANUMERIC
+        .remove(b'.')
+        .remove(b'-')
+        .remove(b'_')
+        .remove(b'~')
+        .remove(b':')
+);
+
+/// The text of a package URL, which is read again as the same. It takes one allocation.
+pub fn to_text(alloc: Global, purl: &Purl) -> Result<Text, NoMemory>
+    ensures text { IfOk result (λ text. text ≡ purl_text purl.now) }
+    ensures again { IfOk result (λ text. SpellsPurl text purl.now) }
+{
+    let mut text = Text::with_room(alloc, room(purl))?;
+    push_purl(&mut text, purl)?;
+    Ok(text)
+}
+
+/// Appends the text of a package URL, which is read again as the same. A refused call leaves `out` as it was. It takes
+/// no memory where `out` has room.
 pub fn write(purl: &Purl, out: &mut Text) -> Result<(), NoMemory>
     ensures ok { OnOk result (out.new ≡ out.old ++ purl_text purl.now) }
     ensures err { OnErr result (out.new ≡ out.old) }
     ensures valid { IsValid purl.now }
     ensures again { SpellsPurl (purl_text purl.now) purl.now }
 {
-    let mut text = Text::new(out.alloc());
-    push_purl(&mut text, purl)?;
-    out.push_str(text.as_str())
+    let len = out.as_str().len();
+    match push_purl(out, purl) {
+        Ok(()) => Ok(()),
+        Err(fault) => {
+            out.cut(len);
+            Err(fault)
+        }
+    }
+}
+
+/// How many bytes the text of a package URL has.
+fn room(purl: &Purl) -> usize {
+    let mut room = purl.kind.len().saturating_add("pkg:".len());
+    room = room.saturating_add(segments_room(purl.namespace.as_slice()));
+    room = room.saturating_add(signed_room(&purl.name));
+    if let Some(version) = &purl.version {
+        room = room.saturating_add(signed_room(version));
+    }
+    room = room.saturating_add(pairs_room(purl.qualifiers.as_slice()));
+    room.saturating_add(segments_room(purl.subpath.as_slice()))
+}
+
+fn segments_room(segments: &[Text]) -> usize {
+    let mut room: usize = 0;
+    for segment in segments {
+        room = room.saturating_add(signed_room(segment));
+    }
+    room
+}
+
+fn pairs_room(pairs: &[Pair]) -> usize {
+    let mut room: usize = 0;
+    for pair in pairs {
+        room = room
+            .saturating_add(pair.key.len())
+            .saturating_add(1)
+            .saturating_add(signed_room(&pair.value));
+    }
+    room
+}
+
+/// How many bytes a sign and the escaped text have.
+fn signed_room(text: &Text) -> usize {
+    let mut room: usize = 1;
+    for piece in utf8_percent_encode(text.as_str(), ESCAPED) {
+        room = room.saturating_add(piece.len());
+    }
+    room
 }
 
 fn push_purl(out: &mut Text, purl: &Purl) -> Result<(), NoMemory>
-    ensures text { OnOk result (out.new ≡ out.old ++ purl_text purl.now) }
+    ensures ok { OnOk result (out.new ≡ out.old ++ purl_text purl.now) }
+    ensures err { OnErr result (IsGrown out.old out.new) }
     ensures valid { IsValid purl.now }
 {
-    push_kind(out, &purl.kind)?;
-    push_path(out, purl.namespace.as_slice(), &purl.name)?;
-    push_version(out, &purl.version)?;
-    push_qualifiers(out, purl.qualifiers.as_slice())?;
-    push_subpath(out, purl.subpath.as_slice())
+    push_body(out, purl)?;
+    push_pairs(out, purl.qualifiers.as_slice())?;
+    push_segments(out, "#", purl.subpath.as_slice())
 }
 
-fn push_kind(out: &mut Text, kind: &Text) -> Result<(), NoMemory>
-    ensures { OnOk result (out.new ≡ out.old ++ 112 ∷ 107 ∷ 103 ∷ 58 ∷ (kind.now ++ 47 ∷ [])) }
+/// Appends the scheme, the type, the path and the version.
+fn push_body(out: &mut Text, purl: &Purl) -> Result<(), NoMemory>
+    ensures ok { OnOk result (out.new ≡ out.old ++ codes "pkg:" ++ purl.now.kind
+        ++ signed_segments (codes "/") purl.now.namespace ++ (codes "/" ++ escaped purl.now.name)
+        ++ marked 64 (option_map escaped purl.now.version)) }
+    ensures err { OnErr result (IsGrown out.old out.new) }
+    ensures valid { IsValid purl.now }
 {
+    let kind = purl.kind.as_str();
     out.push_str("pkg:")?;
-    out.push_str(kind.as_str())?;
-    out.push_str("/")
+    out.push_str(kind)?;
+    push_segments(out, "/", purl.namespace.as_slice())?;
+    push_signed(out, "/", purl.name.as_str())?;
+    match &purl.version {
+        Some(version) => push_signed(out, "@", version.as_str()),
+        None => Ok(()),
+    }
 }
 
-fn push_path(out: &mut Text, namespace: &[Text], name: &Text) -> Result<(), NoMemory>
-    ensures { OnOk result (out.new ≡ out.old ++ join_with_byte 47 (map escaped (namespace.now ++ name.now ∷ []))) }
+/// Appends the segments, the first behind its sign and the others behind a '/'.
+fn push_segments(out: &mut Text, first: &str, segments: &[Text]) -> Result<(), NoMemory>
+    ensures ok { OnOk result (out.new ≡ out.old ++ signed_segments first.now segments.now) }
+    ensures err { OnErr result (IsGrown out.old out.new) }
 {
-    push_before(out, namespace)?;
-    escape(name.as_str(), out)
-}
-
-/// Appends each segment before a '/'.
-fn push_before(out: &mut Text, segments: &[Text]) -> Result<(), NoMemory>
-    ensures { OnOk result (out.new ≡ out.old ++ before 47 (map escaped segments.now)) }
-{
+    let mut sign = first;
     for segment in segments {
-        escape(segment.as_str(), out)?;
-        out.push_str("/")?;
+        push_signed(out, sign, segment.as_str())?;
+        sign = "/";
     }
     Ok(())
 }
 
-fn push_version(out: &mut Text, version: &Option<Text>) -> Result<(), NoMemory>
-    ensures { OnOk result (out.new ≡ out.old ++ marked 64 (option_map escaped version.now)) }
-{
-    match version {
-        Some(version) => {
-            out.push_str("@")?;
-            escape(version.as_str(), out)
-        }
-        None => Ok(()),
-    }
-}
-
-fn push_qualifiers(out: &mut Text, pairs: &[Pair]) -> Result<(), NoMemory>
-    ensures { OnOk result (out.new ≡ out.old ++ marked 63 (joined 38 (map pair_text (map pair_view pairs.now)))) }
-{
-    match pairs.split_first() {
-        Some((first, rest)) => {
-            out.push_str("?")?;
-            push_joined_pairs(out, first, rest)
-        }
-        None => Ok(()),
-    }
-}
-
-fn push_joined_pairs(out: &mut Text, first: &Pair, rest: &[Pair]) -> Result<(), NoMemory>
-    ensures { OnOk result (out.new ≡ out.old
-        ++ join_with_byte 38 (pair_text (pair_view first.now) ∷ map pair_text (map pair_view rest.now))) }
-{
-    push_pair(out, first)?;
-    push_pairs(out, rest)
-}
-
-fn push_pair(out: &mut Text, pair: &Pair) -> Result<(), NoMemory>
-    ensures { OnOk result (out.new ≡ out.old ++ pair_text (pair_view pair.now)) }
-{
-    out.push_str(pair.key.as_str())?;
-    out.push_str("=")?;
-    escape(pair.value.as_str(), out)
-}
-
-/// Appends each pair behind a '&'.
+/// Appends the pairs, the first behind a '?' and the others behind a '&'.
 fn push_pairs(out: &mut Text, pairs: &[Pair]) -> Result<(), NoMemory>
-    ensures { OnOk result (out.new ≡ out.old ++ behind 38 (map pair_text (map pair_view pairs.now))) }
+    ensures ok { OnOk result (out.new ≡ out.old ++ signed_pairs (codes "?") (map pair_view pairs.now)) }
+    ensures err { OnErr result (IsGrown out.old out.new) }
 {
+    let mut sign = "?";
     for pair in pairs {
-        out.push_str("&")?;
-        push_pair(out, pair)?;
+        push_pair(out, sign, pair)?;
+        sign = "&";
     }
     Ok(())
 }
 
-fn push_subpath(out: &mut Text, parts: &[Text]) -> Result<(), NoMemory>
-    ensures { OnOk result (out.new ≡ out.old ++ marked 35 (joined 47 (map escaped parts.now))) }
+fn push_pair(out: &mut Text, sign: &str, pair: &Pair) -> Result<(), NoMemory>
+    ensures ok { OnOk result (out.new ≡ out.old ++ (sign.now ++ pair_text (pair_view pair.now))) }
+    ensures err { OnErr result (IsGrown out.old out.new) }
 {
-    match parts.split_first() {
-        Some((first, rest)) => {
-            out.push_str("#")?;
-            push_joined(out, first, rest)
-        }
-        None => Ok(()),
-    }
+    out.push_str(sign)?;
+    out.push_str(pair.key.as_str())?;
+    push_signed(out, "=", pair.value.as_str())
 }
 
-fn push_joined(out: &mut Text, first: &Text, rest: &[Text]) -> Result<(), NoMemory>
-    ensures { OnOk result (out.new ≡ out.old ++ join_with_byte 47 (escaped first.now ∷ map escaped rest.now)) }
+/// Appends a sign and the escaped text.
+fn push_signed(out: &mut Text, sign: &str, text: &str) -> Result<(), NoMemory>
+    ensures ok { OnOk result (out.new ≡ out.old ++ (sign.now ++ escaped text.now)) }
+    ensures err { OnErr result (IsGrown out.old out.new) }
 {
-    escape(first.as_str(), out)?;
-    push_behind(out, rest)
+    out.push_str(sign)?;
+    push_escaped(out, text)
 }
 
-/// Appends each part behind a '/'.
-fn push_behind(out: &mut Text, parts: &[Text]) -> Result<(), NoMemory>
-    ensures { OnOk result (out.new ≡ out.old ++ behind 47 (map escaped parts.now)) }
+fn push_escaped(out: &mut Text, text: &str) -> Result<(), NoMemory>
+    ensures ok { OnOk result (out.new ≡ out.old ++ escaped text.now) }
+    ensures err { OnErr result (IsGrown out.old out.new) }
 {
-    for part in parts {
-        out.push_str("/")?;
-        escape(part.as_str(), out)?;
+    for piece in utf8_percent_encode(text, ESCAPED) {
+        out.push_str(piece)?;
     }
     Ok(())
 }

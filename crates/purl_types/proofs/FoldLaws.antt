@@ -2,12 +2,13 @@
 use Rattle.std.proofs.Common.{◌≡◌, ◌≢◌, ◌<◌, ◌≤◌, ◌&&◌, ℕ, Bool, true, not, eqb, List, [], ◌∷◌, map, refl, sym, ap, ◌∙◌, subst, arith}
 use Rattle.std.specs.List.{AllByRecursion, list_all}
 use Rattle.std.specs.Char.{is_ascii_uppercase, to_ascii_lowercase}
+use Rattle.std.specs.Str.{IsUtf8}
 use Rattle.std.proofs.lemmas.Bool.{and_parts}
 use Rattle.std.proofs.lemmas.Bool.Decides.{nat_tests}
 use Rattle.std.proofs.lemmas.Str.Ascii.{lowercase-lowercase}
 use Rattle.vx_text.specs.Folding.{lowered}
 use Rattle.purl_core.specs.Value.{IsPart, IsValid, Package}
-use Rattle.purl_types.specs.Folding.{dash, fold_text, folded}
+use Rattle.purl_types.specs.Folding.{dash, fold_text, folded_purl}
 use Rattle.purl_types.specs.Table.{row_of}
 use Rattle.purl_types.specs.declared.table.Folding.{Folding}
 use Rattle.purl_types.specs.declared.table.Folding.TheVariants.{Kept, Lowered, Dashed}
@@ -49,6 +50,10 @@ module _ (f : ℕ → ℕ) (low : (b : ℕ) → b < 128 → f b < 128) (high : (
 part_dashed : (text : List ℕ) → IsPart text → IsPart (map dash (lowered text))
 part_dashed text part = subst IsPart (sym (dashed_is text)) (part_mapped dashed_byte dashed_small dashed_past dashed_below text part)
 
+-- a text that is dashed is a text
+pub dashed_utf8 : (text : List ℕ) → IsUtf8 text → IsUtf8 (map dashed_byte text)
+dashed_utf8 text utf8 = utf8_mapped dashed_byte dashed_small dashed_past text utf8
+
 pub part_folded : (folding : Folding) (text : List ℕ) → IsPart text → IsPart (fold_text folding text)
 part_folded Kept text part = part
 part_folded Lowered text part = part_mapped to_ascii_lowercase low_small low_past low_byte text part
@@ -58,7 +63,7 @@ pub parts_folded : (folding : Folding) (texts : List (List ℕ)) → AllByRecurs
 parts_folded folding [] all = tt
 parts_folded folding (text ∷ texts) all = (part_folded folding text all.0, parts_folded folding texts all.1)
 
-pub valid_folded : (p : Package) → IsValid p → IsValid (folded p)
+pub valid_folded : (p : Package) → IsValid p → IsValid (folded_purl p)
 valid_folded p valid = record {
   kind = valid.kind;
   kind_low = valid.kind_low;
@@ -92,7 +97,7 @@ texts_once : (folding : Folding) (texts : List (List ℕ)) → map (fold_text fo
 texts_once folding [] = refl
 texts_once folding (text ∷ texts) = cc (text_once folding text, texts_once folding texts)
 
-pub folded_once : (p : Package) → folded (folded p) ≡ folded p
+pub folded_once : (p : Package) → folded_purl (folded_purl p) ≡ folded_purl p
 folded_once p = cc (texts_once (row_of p.kind).namespace p.namespace, text_once (row_of p.kind).name p.name)
 
 -- ---- what stays

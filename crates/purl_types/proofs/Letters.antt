@@ -5,7 +5,8 @@ use Rattle.std.proofs.lemmas.Bool.Decides.{nat_tests}
 use Rattle.std.proofs.lemmas.Bool.{cases_eq, cases_lt}
 use Rattle.vx_text.specs.Folding.{lowered}
 use Rattle.purl_types.specs.Folding.{dash, fold_text}
-use Rattle.purl_types.specs.Same.{IsDash, Pointwise, SameLetter, SameSign, SameText}
+use Rattle.vx_spec.specs.Each.{AreEach}
+use Rattle.purl_types.specs.Same.{IsDash, SameLetter, SameSign, SameText}
 use Rattle.purl_types.specs.declared.table.Folding.{Folding}
 use Rattle.purl_types.specs.declared.table.Folding.TheVariants.{Kept, Lowered, Dashed}
 
@@ -49,13 +50,13 @@ sign_only a b (inr d) = of_dash a d.0 ∙ sym (of_dash b d.1) where
 
 -- ---- lists, of any relation that is equality of what a function gives
 
-pub list_if : {X Y : Type 0} (R : X → X → Type 0) (f : X → Y) → ((a b : X) → f a ≡ f b → R a b) → (xs ys : List X) → map f xs ≡ map f ys → Pointwise R xs ys
+pub list_if : {X Y : Type 0} (R : X → X → Type 0) (f : X → Y) → ((a b : X) → f a ≡ f b → R a b) → (xs ys : List X) → map f xs ≡ map f ys → AreEach R xs ys
 list_if R f each [] [] e = tt
 list_if R f each [] (y ∷ ys) e = cc e
 list_if R f each (x ∷ xs) [] e = cc e
 list_if R f each (x ∷ xs) (y ∷ ys) e = (each x y (cc e), list_if R f each xs ys (cc e))
 
-pub list_only : {X Y : Type 0} (R : X → X → Type 0) (f : X → Y) → ((a b : X) → R a b → f a ≡ f b) → (xs ys : List X) → Pointwise R xs ys → map f xs ≡ map f ys
+pub list_only : {X Y : Type 0} (R : X → X → Type 0) (f : X → Y) → ((a b : X) → R a b → f a ≡ f b) → (xs ys : List X) → AreEach R xs ys → map f xs ≡ map f ys
 list_only R f each [] [] p = refl
 list_only R f each [] (y ∷ ys) p = absurd p
 list_only R f each (x ∷ xs) [] p = absurd p

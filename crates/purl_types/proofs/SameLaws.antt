@@ -7,15 +7,16 @@ use Rattle.purl_core.proofs.OneValue.{one_value, same_lists, same_package}
 use Rattle.purl_core.proofs.Printed.{one_printed, printed, same_map}
 use Rattle.purl_core.proofs.Valid.{valid}
 use Rattle.purl_types.specs.Table.{row_of}
-use Rattle.purl_types.specs.Folding.{fold_text, folded}
-use Rattle.purl_types.specs.Same.{Pointwise, Same, SameText}
+use Rattle.purl_types.specs.Folding.{fold_text, folded_purl}
+use Rattle.vx_spec.specs.Each.{AreEach}
+use Rattle.purl_types.specs.Same.{Same, SameText}
 use Rattle.purl_types.specs.declared.table.Row.{Row}
 use Rattle.purl_types.specs.declared.table.Folding.TheVariants.{Kept}
 use Rattle.purl_types.specs.Canonical.{AreBytes, IsCanonical}
 use Rattle.purl_types.proofs.Letters.{list_if, list_only, text_if, text_only}
 use Rattle.purl_types.proofs.FoldLaws.{folded_once, valid_folded}
 
-pub folded_same : (p q : Package) → Ascending p.qualifiers → Ascending q.qualifiers → Same p q → folded p ≡ folded q
+pub folded_same : (p q : Package) → Ascending p.qualifiers → Ascending q.qualifiers → Same p q → folded_purl p ≡ folded_purl q
 folded_same p q x y s =
     let row = row_of p.kind in
     same_package s.kind
@@ -24,7 +25,7 @@ folded_same p q x y s =
     (text_only row.name p.name q.name s.name ∙ ap (λ kind. fold_text (row_of kind).name q.name) s.kind)
     s.version (same_lists p.qualifiers q.qualifiers x y (λ pair. s.qualifiers pair.0 pair.1)) s.subpath
 
-pub same_folded : (p q : Package) → folded p ≡ folded q → Same p q
+pub same_folded : (p q : Package) → folded_purl p ≡ folded_purl q → Same p q
 same_folded p q e =
     let row = row_of p.kind in
     let kind : p.kind ≡ q.kind = ap (λ (r : Package). r.kind) e in
@@ -41,9 +42,9 @@ same_folded p q e =
     }
 
 -- one canonical text for one package
-pub canonical_same : (p q : Package) → IsValid p → IsValid q → (purl_text (folded p) ≡ purl_text (folded q)) ↔ Same p q
+pub canonical_same : (p q : Package) → IsValid p → IsValid q → (purl_text (folded_purl p) ≡ purl_text (folded_purl q)) ↔ Same p q
 canonical_same p q x y = (
-  (λ e. same_folded p q (one_printed (folded p) (folded q) (valid_folded p x) (valid_folded q y) e)),
+  (λ e. same_folded p q (one_printed (folded_purl p) (folded_purl q) (valid_folded p x) (valid_folded q y) e)),
   (λ s. ap purl_text (folded_same p q x.ascending y.ascending s)),
 )
 
@@ -51,14 +52,14 @@ pub again : (text canonical : List ℕ) → AreBytes text → IsCanonical text c
 again text canonical bytes c =
     let good = valid_folded c.purl (valid text c.purl bytes c.spells) in
     record {
-      purl = folded c.purl;
-      spells = subst (λ (t : List ℕ). SpellsPurl t (folded c.purl)) (sym c.printed) (printed (folded c.purl) good);
+      purl = folded_purl c.purl;
+      spells = subst (λ (t : List ℕ). SpellsPurl t (folded_purl c.purl)) (sym c.printed) (printed (folded_purl c.purl) good);
       printed = c.printed ∙ ap purl_text (sym (folded_once c.purl));
     }
 
 -- what the canonical text of a text is printed of
-printed_is : (text canonical : List ℕ) (p : Package) → SpellsPurl text p → IsCanonical text canonical → canonical ≡ purl_text (folded p)
-printed_is text canonical p spells c = c.printed ∙ ap (λ (q : Package). purl_text (folded q)) (one_value text c.purl p c.spells spells)
+printed_is : (text canonical : List ℕ) (p : Package) → SpellsPurl text p → IsCanonical text canonical → canonical ≡ purl_text (folded_purl p)
+printed_is text canonical p spells c = c.printed ∙ ap (λ (q : Package). purl_text (folded_purl q)) (one_value text c.purl p c.spells spells)
 
 pub one_text : (a b x y : List ℕ) (p q : Package) → AreBytes a → AreBytes b → SpellsPurl a p → SpellsPurl b q → IsCanonical a x → IsCanonical b y → (x ≡ y) ↔ Same p q
 one_text a b x y p q small tiny first second c d =
@@ -73,19 +74,19 @@ same_pairs : (p q : Package) → p.qualifiers ≡ q.qualifiers → (key value : 
 same_pairs p q e key value = same_map p.qualifiers q.qualifiers e (key, value)
 
 pub same_parts : (p q : Package) (row : Row) → Ascending p.qualifiers → Ascending q.qualifiers → row ≡ row_of p.kind → p.kind ≡ q.kind
-    → ((Pointwise (SameText row.namespace) p.namespace q.namespace × SameText row.name p.name q.name)
+    → ((AreEach (SameText row.namespace) p.namespace q.namespace × SameText row.name p.name q.name)
     × ((p.version ≡ q.version) × ((p.qualifiers ≡ q.qualifiers) × (p.subpath ≡ q.subpath)))) ↔ Same p q
 same_parts p q row x y is kind = (
   (λ parts. record {
     kind = kind;
-    namespace = subst (λ (r : Row). Pointwise (SameText r.namespace) p.namespace q.namespace) is parts.0.0;
+    namespace = subst (λ (r : Row). AreEach (SameText r.namespace) p.namespace q.namespace) is parts.0.0;
     name = subst (λ (r : Row). SameText r.name p.name q.name) is parts.0.1;
     version = parts.1.0;
     qualifiers = same_pairs p q parts.1.1.0;
     subpath = parts.1.1.1;
   }),
   (λ s. (
-    (subst (λ (r : Row). Pointwise (SameText r.namespace) p.namespace q.namespace) (sym is) s.namespace, subst (λ (r : Row). SameText r.name p.name q.name) (sym is) s.name),
+    (subst (λ (r : Row). AreEach (SameText r.namespace) p.namespace q.namespace) (sym is) s.namespace, subst (λ (r : Row). SameText r.name p.name q.name) (sym is) s.name),
     (s.version, (same_lists p.qualifiers q.qualifiers x y (λ pair. s.qualifiers pair.0 pair.1), s.subpath)),
   )),
 )
@@ -93,7 +94,7 @@ same_parts p q row x y is kind = (
 pub told_by : {P Q : Type 0} (told : Bool) → (IsTrue told ↔ P) → (P ↔ Q) → IsTrue told ↔ Q
 told_by told x y = ((λ t. y.0 (x.0 t)), (λ q. x.1 (y.1 q)))
 
-pub each_equal : (a b : List (List ℕ)) → Pointwise (SameText Kept) a b ↔ (a ≡ b)
+pub each_equal : (a b : List (List ℕ)) → AreEach (SameText Kept) a b ↔ (a ≡ b)
 each_equal [] [] = ((λ p. refl), (λ e. tt))
 each_equal [] (y ∷ b) = ((λ p. absurd p), (λ e. cc e))
 each_equal (x ∷ a) [] = ((λ p. absurd p), (λ e. cc e))

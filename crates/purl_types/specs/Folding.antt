@@ -1,4 +1,4 @@
--- Package URLs folded as their types say.
+-- Package URLs folded as their types say (ECMA-427, the rules of the types).
 use Rattle.std.specs.Prelude.{◌==◌, ℕ, if◌then◌else◌, List, map}
 use Rattle.vx_text.specs.Folding.{lowered}
 use Rattle.purl_core.specs.Value.{Package}
@@ -17,8 +17,8 @@ fold_text Lowered text = lowered text
 fold_text Dashed text = map dash (lowered text)
 
 -- the package URL with its namespace and its name folded as its type's row says
-abbrev pub folded : Package → Package
-folded p = record {
+abbrev pub folded_purl : Package → Package
+folded_purl p = record {
   kind = p.kind;
   namespace = map (fold_text (row_of p.kind).namespace) p.namespace;
   name = fold_text (row_of p.kind).name p.name;

@@ -1,5 +1,6 @@
--- When two package URLs mean the same package. Nothing is folded or put in order here: texts are compared byte by byte.
-use Rattle.std.specs.Prelude.{◌≡◌, ◌+◌, ◌≤◌, ◌⊎◌, ◌↔◌, ℕ, List, [], ◌∷◌, ⊤}
+-- When two package URLs mean the same package (ECMA-427, the rules of the types). Nothing is folded or put in order here: texts are compared byte by byte.
+use Rattle.std.specs.Prelude.{◌≡◌, ◌+◌, ◌≤◌, ◌⊎◌, ◌↔◌, ℕ, List}
+use Rattle.vx_spec.specs.Each.{AreEach}
 use Rattle.purl_core.specs.Value.{Package}
 use Rattle.purl_core.specs.Spelling.{Member}
 use Rattle.purl_types.specs.Table.{row_of}
@@ -22,24 +23,17 @@ IsDash b = (b ≡ 45) ⊎ (b ≡ 95)
 abbrev pub SameSign : ℕ → ℕ → Type 0
 SameSign a b = SameLetter a b ⊎ (IsDash a × IsDash b)
 
--- equally long, and related item by item
-abbrev pub Pointwise : {X : Type 0} → (X → X → Type 0) → List X → List X → Type 0
-Pointwise R [] [] = ⊤
-Pointwise R [] (y ∷ ys) = ⊥
-Pointwise R (x ∷ xs) [] = ⊥
-Pointwise R (x ∷ xs) (y ∷ ys) = R x y × Pointwise R xs ys
-
 -- what a type takes for one text: equal; but for the case of letters; but for that and '-' in place of '_'
 abbrev pub SameText : Folding → List ℕ → List ℕ → Type 0
 SameText Kept a b = a ≡ b
-SameText Lowered a b = Pointwise SameLetter a b
-SameText Dashed a b = Pointwise SameSign a b
+SameText Lowered a b = AreEach SameLetter a b
+SameText Dashed a b = AreEach SameSign a b
 
 -- The package URLs mean the same package: namespaces segment by segment and names are one as the type says, and each
 -- key has the same value on both sides.
 pub record Same (p q : Package) : Type 0 where
   pub kind : p.kind ≡ q.kind
-  pub namespace : Pointwise (SameText (row_of p.kind).namespace) p.namespace q.namespace
+  pub namespace : AreEach (SameText (row_of p.kind).namespace) p.namespace q.namespace
   pub name : SameText (row_of p.kind).name p.name q.name
   pub version : p.version ≡ q.version
   pub qualifiers : (key value : List ℕ) → Member (key, value) p.qualifiers ↔ Member (key, value) q.qualifiers

@@ -1,4 +1,4 @@
--- The type table: what each type says of its namespaces and its names.
+-- The type table: what each type says of its namespaces and its names (ECMA-427, the type definitions).
 use Rattle.std.specs.Prelude.{ℕ, if◌then◌else◌, List, [], ◌∷◌, codes}
 use Rattle.std.specs.Str.{bytes_eq}
 use Rattle.purl_types.specs.declared.table.Folding.{Folding}

@@ -1,6 +1,7 @@
 ghost use Rattle.std.specs.Prelude.{◌≡◌, ◌↔◌, IsTrue, map};
 ghost use Rattle.purl_core.specs.Value.{pair_view};
-ghost use Rattle.purl_types.specs.Same.{IsDash, Pointwise, Same, SameLetter, SameSign, SameText};
+ghost use Rattle.vx_spec.specs.Each.{AreEach};
+ghost use Rattle.purl_types.specs.Same.{IsDash, Same, SameLetter, SameSign, SameText};
 ghost use Rattle.purl_types.specs.Canonical.{IsComparedAs};
 
 use crate::table::{Folding, Row, row_of};
@@ -37,7 +38,7 @@ pub fn is_same(a: &Purl, b: &Purl) -> bool
 
 /// Whether the namespaces and the names are one, as a row of the type table says.
 fn same_path(row: Row, a: &Purl, b: &Purl) -> bool
-    ensures { IsTrue result ↔ (Pointwise (SameText row.namespace) a.now.namespace b.now.namespace × SameText row.name a.now.name b.now.name) }
+    ensures { IsTrue result ↔ (AreEach (SameText row.namespace) a.now.namespace b.now.namespace × SameText row.name a.now.name b.now.name) }
 {
     same_texts(
         row.namespace,
@@ -62,7 +63,7 @@ fn equal_ends(a: &Purl, b: &Purl) -> bool
 }
 
 fn same_texts(folding: Folding, a: &[Text], b: &[Text]) -> bool
-    ensures { IsTrue result ↔ Pointwise (SameText folding) a.now b.now }
+    ensures { IsTrue result ↔ AreEach (SameText folding) a.now b.now }
 {
     if a.len() != b.len() {
         return false;
@@ -86,13 +87,13 @@ fn same_text(folding: Folding, a: &str, b: &str) -> bool
 }
 
 fn same_letters(a: &str, b: &str) -> bool
-    ensures { IsTrue result ↔ Pointwise SameLetter a.now b.now }
+    ensures { IsTrue result ↔ AreEach SameLetter a.now b.now }
 {
     same_folded(a, b)
 }
 
 fn same_signs(a: &[u8], b: &[u8]) -> bool
-    ensures { IsTrue result ↔ Pointwise SameSign a.now b.now }
+    ensures { IsTrue result ↔ AreEach SameSign a.now b.now }
 {
     if a.len() != b.len() {
         return false;
@@ -134,7 +135,7 @@ fn equal_pairs(a: &[Pair], b: &[Pair]) -> bool
 }
 
 fn each_equal(a: &[Pair], b: &[Pair]) -> bool
-    ensures { IsTrue result ↔ Pointwise (λ x y. pair_view x ≡ pair_view y) a.now b.now }
+    ensures { IsTrue result ↔ AreEach (λ x y. pair_view x ≡ pair_view y) a.now b.now }
 {
     if a.len() != b.len() {
         return false;

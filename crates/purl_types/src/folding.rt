@@ -3,7 +3,7 @@ ghost use Rattle.std.specs.Char.{is_ascii_uppercase, to_ascii_lowercase};
 ghost use Rattle.std.specs.List.{list_all};
 ghost use Rattle.vx_text.specs.Folding.{lowered};
 ghost use Rattle.purl_core.specs.Value.{IsValid};
-ghost use Rattle.purl_types.specs.Folding.{dash, fold_text, folded};
+ghost use Rattle.purl_types.specs.Folding.{dash, fold_text, folded_purl};
 ghost use Rattle.purl_types.specs.Canonical.{FoldingIsDone, FoldingIsValid};
 
 use crate::table::{Folding, row_of};
@@ -14,7 +14,7 @@ use vx_text::lower;
 
 /// The package URL with its namespace and its name folded as its type says. A refused call drops it.
 pub fn fold(alloc: Global, purl: Purl) -> Result<Purl, NoMemory>
-    ensures { IfOk result (λ fold. fold ≡ folded purl) }
+    ensures { IfOk result (λ fold. fold ≡ folded_purl purl) }
 {
     let mut purl = purl;
     let row = row_of(purl.kind.as_str());
@@ -71,13 +71,13 @@ fn is_low(bytes: &[u8]) -> bool
 fn dash_text(alloc: Global, text: &mut Text) -> Result<(), NoMemory>
     ensures { OnOk result (text.new ≡ map dash (lowered text.old)) }
 {
-    if !is_dashed(text.as_str().as_bytes()) {
-        *text = dashed(alloc, text.as_str())?;
+    if !has_dashes(text.as_str().as_bytes()) {
+        *text = dash_copy(alloc, text.as_str())?;
     }
     Ok(())
 }
 
-fn is_dashed(bytes: &[u8]) -> bool
+fn has_dashes(bytes: &[u8]) -> bool
     ensures { result ≡ list_all (λ b. not (is_ascii_uppercase b) && not (b == 95)) bytes.now }
 {
     bytes
@@ -86,17 +86,17 @@ fn is_dashed(bytes: &[u8]) -> bool
 }
 
 /// The text in lower case, and then with '-' for each '_'.
-fn dashed(alloc: Global, text: &str) -> Result<Text, NoMemory>
+fn dash_copy(alloc: Global, text: &str) -> Result<Text, NoMemory>
     ensures { IfOk result (λ copy. copy ≡ map dash (lowered text.now)) }
 {
-    let bytes = dashed_bytes(alloc, text.as_bytes())?;
+    let bytes = dash_bytes(alloc, text.as_bytes())?;
     match String::from_utf8(bytes) {
         Ok(copy) => Ok(Text::from_string(copy)),
-        Err(_) => Err(NoMemory),
+        Err(_) => unreachable!(),
     }
 }
 
-fn dashed_bytes(alloc: Global, bytes: &[u8]) -> Result<Vec<u8>, NoMemory>
+fn dash_bytes(alloc: Global, bytes: &[u8]) -> Result<Vec<u8>, NoMemory>
     ensures { IfOk result (λ copy. copy.items ≡ map (λ b. dash (to_ascii_lowercase b)) bytes.now) }
 {
     let copy = bytes

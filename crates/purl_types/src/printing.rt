@@ -1,10 +1,10 @@
 ghost use Rattle.std.specs.Prelude.{◌≡◌, IfOk};
 ghost use Rattle.purl_core.specs.Printed.{purl_text};
-ghost use Rattle.purl_types.specs.Folding.{folded};
-ghost use Rattle.purl_types.specs.Canonical.{CanonicalAgain, IsCanonicalAs, OneCanonical, OneForSame};
+ghost use Rattle.purl_types.specs.Folding.{folded_purl};
+ghost use Rattle.purl_types.specs.Canonical.{CanonicalAgain, EqualCanonicalsMeanSame, IsCanonicalAs, OneForSame};
 
 use crate::folding::fold;
-use purl_core::{Purl, PurlFault, read, write};
+use purl_core::{Purl, PurlFault, read, to_text};
 use std::alloc::Global;
 use vx_scheme::{NoMemory, Text};
 
@@ -13,19 +13,16 @@ pub fn canonical(alloc: Global, text: &str) -> Result<Text, PurlFault>
     ensures { IsCanonicalAs text.now result }
 {
     match read(alloc, text) {
-        Ok(purl) => Ok(printed(alloc, purl)?),
+        Ok(purl) => Ok(folded_text(alloc, purl)?),
         Err(fault) => Err(fault),
     }
 }
 
-/// The printed text of a package URL that is folded first.
-fn printed(alloc: Global, purl: Purl) -> Result<Text, NoMemory>
-    ensures { IfOk result (λ text. text ≡ purl_text (folded purl)) }
+/// The text of a package URL that is folded first.
+fn folded_text(alloc: Global, purl: Purl) -> Result<Text, NoMemory>
+    ensures { IfOk result (λ text. text ≡ purl_text (folded_purl purl)) }
 {
-    let folded = fold(alloc, purl)?;
-    let mut text = Text::new(alloc);
-    write(&folded, &mut text)?;
-    Ok(text)
+    to_text(alloc, &fold(alloc, purl)?)
 }
 
 /// The law that the canonical text of a canonical text is that text.
@@ -37,5 +34,5 @@ pub fn canonical_again()
 /// same package.
 pub fn one_canonical()
     ensures values { OneForSame }
-    ensures texts { OneCanonical }
+    ensures texts { EqualCanonicalsMeanSame }
 {}

@@ -1,14 +1,11 @@
 //! Debian's relations, after Debian Policy: terms parted by commas, each of relations parted by bars.
 
 mod back;
+mod operators;
 mod range;
-mod reading;
-mod refusals;
-mod relation;
-mod spans;
-mod terms;
-mod values;
+mod table;
 
 #[cfg(test)]
 pub(crate) use back::text_of;
-pub use range::{DebRange, deb_limits_agree, deb_term_is_its_spans};
+pub use operators::{Operator, RelationSigns};
+pub use range::{DebRange, deb_one_answer, deb_relation_is_its_span, deb_term_is_its_spans};

@@ -1,8 +1,9 @@
 -- An accepted line says what its command promises.
 use Rattle.std.proofs.Common.{◌≡◌, ℕ, List, [], ◌∷◌, Bool, true, false, Option, Some, None, refl, subst, codes, nat_lt}
 use Rattle.vx_scheme.specs.declared.name.SchemeName.{SchemeName}
+use Rattle.vx_scheme.specs.Names.{scheme_named}
 use Rattle.vx_scheme.specs.declared.domain.Domain.{Domain}
-use Rattle.vx_cli.specs.Answers.{IsAnswer, AnswersLine, AnswersFields, AnswersScheme, AnswersInDomain, AnswersBack, AnswersCanon, AnswersHas, AnswersPurl, AnswersSame, scheme_named, domain_named}
+use Rattle.vx_cli.specs.Answers.{IsAnswer, AnswersLine, AnswersFields, AnswersScheme, AnswersInDomain, AnswersBack, AnswersCanon, AnswersHas, AnswersPurl, AnswersSame, domain_named}
 use Rattle.vx_cli.specs.Fields.{joined_length}
 use Rattle.vx_cli.specs.Runs.{AppendsAnswer, AppendsSuch}
 use Rattle.vx_cli.specs.Translations.{IsTranslation, IsTranslationBack, IsSimplification, IsMembership, IsCanonicalPurl, IsComparison}

@@ -2,7 +2,7 @@
 use Rattle.std.specs.Prelude.{◌≡◌, ◌≢◌, ℕ, List, [], ◌∷◌, ◌++◌, Bool, true, false, Option, Some, None, Result, Ok, Err, if◌then◌else◌, nat_lt, bytes_eq, codes}
 use Rattle.vx_spec.specs.Numerals.{numeral_text}
 use Rattle.vx_scheme.specs.declared.name.SchemeName.{SchemeName}
-use Rattle.vx_scheme.specs.declared.name.SchemeName.TheVariants.{Npm, Pypi, Maven, Gem, Deb, Rpm, Nuget, Cargo}
+use Rattle.vx_scheme.specs.Names.{scheme_named}
 use Rattle.vx_scheme.specs.declared.domain.Domain.{Domain}
 use Rattle.vx_scheme.specs.declared.domain.Domain.TheVariants.{All, Releases}
 use Rattle.vx_scheme.specs.declared.range_fault.EndKind.{EndKind}
@@ -17,27 +17,12 @@ use Rattle.purl_core.specs.Reading.{IsRefused as IsPurlRefused}
 use Rattle.purl_core.specs.declared.fault.PurlFault.{PurlFault}
 use Rattle.purl_core.specs.declared.fault.PurlFault.TheVariants as purl_fault_of
 use Rattle.purl_types.specs.Canonical.{IsCanonical, IsComparedAs}
-use Rattle.vx_translate.specs.Canon.{IsCanon, IsSameList, IsCanonRefused}
-use Rattle.vx_translate.specs.FromVers.{meant, IsFromVers, IsSameSet, IsFromVersRefused}
-use Rattle.vx_translate.specs.Has.{IsHas, IsHasRefused}
-use Rattle.vx_translate.specs.ToVers.{IsTranslated, IsSameRange, IsRefused}
+use Rattle.vx_translate.specs.Domains.{chosen_domain}
+use Rattle.vx_translate.specs.Names.{IsCanon, IsSameList, IsCanonRefused, IsFromVers, IsSameSet, IsFromVersRefused, IsHas, IsHasRefused, IsTranslated, IsSameRange, IsRefused}
 use Rattle.vx_cli.specs.declared.command.Command.{Command}
 use Rattle.vx_cli.specs.declared.command.Command.TheVariants.{ToVers, FromVers, Canon, Has, Purl, Same}
 use Rattle.vx_cli.specs.Commands.{command_named}
 use Rattle.vx_cli.specs.Fields.{joined_length}
-
--- the scheme of this name
-abbrev pub scheme_named : List ℕ → Option SchemeName
-scheme_named text =
-    if bytes_eq text (codes "npm") then Some Npm
-    else if bytes_eq text (codes "pypi") then Some Pypi
-    else if bytes_eq text (codes "maven") then Some Maven
-    else if bytes_eq text (codes "gem") then Some Gem
-    else if bytes_eq text (codes "deb") then Some Deb
-    else if bytes_eq text (codes "rpm") then Some Rpm
-    else if bytes_eq text (codes "nuget") then Some Nuget
-    else if bytes_eq text (codes "cargo") then Some Cargo
-    else None
 
 -- the domain that the text names, or none for `-`, which means the scheme's default
 abbrev pub domain_named : List ℕ → Option (Option Domain)
@@ -128,7 +113,7 @@ AnswersRange name domain range = AnswersText (λ text. IsTranslated name domain 
 
 abbrev pub AnswersInDomain : SchemeName → Option (Option Domain) → List ℕ → Bool → List ℕ → Type 0
 AnswersInDomain name None range = IsLine (codes "no\t5 BadDomain\t-")
-AnswersInDomain name (Some domain) range = AnswersRange name (meant domain name) range
+AnswersInDomain name (Some domain) range = AnswersRange name (chosen_domain domain name) range
 
 abbrev pub AnswersScheme : Option SchemeName → List ℕ → List ℕ → Bool → List ℕ → Type 0
 AnswersScheme None domain range = IsLine (codes "no\t4 BadScheme\t-")

@@ -1,10 +1,10 @@
 -- Sources and sinks: what their calls do to the bytes that they tell, and when a fault may be answered.
-use Rattle.std.specs.Prelude.{◌≡◌, ℕ, ◌+◌, ◌-◌, ◌^◌, ◌≤◌, min, List, ◌++◌, drop, Option, Result, IfOk, OnOk, OnErr}
+use Rattle.std.specs.Prelude.{◌≡◌, ◌⊎◌, ℕ, ◌-◌, ◌^◌, ◌<◌, ◌≤◌, List, ◌++◌, drop, Option, Result, IfOk, OnOk, OnErr}
 use Rattle.std.specs.Io.KnownBytes.{Appends}
 
--- a count of faults rose, or stands at the end of its type
+-- a count of faults is higher than before, or stands at the end of its type
 abbrev pub Rose : ℕ → ℕ → Type 0
-Rose before now = min (before + 1) (2 ^ 64 - 1) ≤ now
+Rose before now = (before < now) ⊎ (now ≡ 2 ^ 64 - 1)
 
 -- a count of faults never falls, a failure comes only where it rose, and success leaves it
 pub record HasCause {T E : Type 0} (before now : ℕ) (result : Result T E) : Type 0 where

@@ -3,11 +3,10 @@ use Rattle.std.specs.Prelude.{◌≡◌, ℕ, List, ◌++◌, Bool, Option, Some
 use Rattle.vx_scheme.specs.declared.name.SchemeName.{SchemeName}
 use Rattle.vx_scheme.specs.declared.domain.Domain.{Domain}
 use Rattle.purl_types.specs.Canonical.{IsCanonical, IsComparedAs}
-use Rattle.vx_translate.specs.Canon.{IsSameList}
-use Rattle.vx_translate.specs.FromVers.{meant, IsSameSet}
-use Rattle.vx_translate.specs.Has.{IsHas}
-use Rattle.vx_translate.specs.ToVers.{IsSameRange}
-use Rattle.vx_cli.specs.Answers.{scheme_named, domain_named, decided_text}
+use Rattle.vx_scheme.specs.Names.{scheme_named}
+use Rattle.vx_translate.specs.Domains.{chosen_domain}
+use Rattle.vx_translate.specs.Names.{IsSameList, IsSameSet, IsHas, IsSameRange}
+use Rattle.vx_cli.specs.Answers.{domain_named, decided_text}
 
 -- The line behind `to-vers`, a scheme, a domain and a range is `ok`, a tab and a printed text, which holds exactly the
 -- versions of the domain that are in the range.
@@ -18,7 +17,7 @@ pub record IsTranslation (scheme domain range line : List ℕ) : Type 0 where
   pub is_scheme : scheme_named scheme ≡ Some name
   pub is_domain : domain_named domain ≡ Some choice
   pub printed : line ≡ codes "ok\t" ++ text
-  pub same : IsSameRange name (meant choice name) range text
+  pub same : IsSameRange name (chosen_domain choice name) range text
 
 -- The line behind `from-vers`, a domain and a VERS text is `ok`, a tab and a range text, in which are exactly the
 -- versions of the domain that the list, as it is read, holds.

@@ -1,15 +1,15 @@
-ghost use Rattle.std.specs.Prelude.{◌≡◌, ◌∷◌, [], IfOk, Some, nat_lt};
+ghost use Rattle.std.specs.Prelude.{◌≡◌, ◌∷◌, [], IfOk, Some, map, nat_lt};
 ghost use Rattle.vx_cli.specs.Answers.{AnswersCommand, AnswersFields, IsAnswer, IsNotBuilt};
 ghost use Rattle.vx_cli.specs.Fields.{joined_length};
 
 use crate::command::{Command, command_named};
-use crate::fields::{Fields, joined_length};
+use crate::fields::joined_length;
 use crate::purl_answers::{answer_purl, answer_same};
 use crate::refusing::refused;
 use crate::reply::Answer;
 use crate::vers_answers::{answer_canon, answer_from_vers, answer_has, answer_to_vers};
 use std::alloc::Global;
-use vx_scheme::{NoMemory, Text};
+use vx_scheme::NoMemory;
 
 /// The most bytes that a line may have.
 pub const MOST_BYTES: usize = 65_536;
@@ -69,31 +69,25 @@ fn answer_three(
 }
 
 // The answer to a command with the fields behind it.
-fn answer_command(alloc: Global, command: Command, fields: &[Text]) -> Result<Answer, NoMemory>
-    ensures { IfOk result (λ a. AnswersCommand (Some command) fields.now a.ok a.text) }
+fn answer_command(alloc: Global, command: Command, fields: &[&str]) -> Result<Answer, NoMemory>
+    ensures { IfOk result (λ a. AnswersCommand (Some command) (map (λ field. field.now) fields.now) a.ok a.text) }
 {
     match fields {
-        [field] => answer_one(alloc, command, field.as_str()),
-        [first, second] => answer_two(alloc, command, first.as_str(), second.as_str()),
-        [first, second, third] => answer_three(
-            alloc,
-            command,
-            first.as_str(),
-            second.as_str(),
-            third.as_str(),
-        ),
+        [field] => answer_one(alloc, command, field),
+        [first, second] => answer_two(alloc, command, first, second),
+        [first, second, third] => answer_three(alloc, command, first, second, third),
         _ => not_built(alloc),
     }
 }
 
 // The answer to a line that is not too long.
-fn answer_fields(alloc: Global, fields: &[Text]) -> Result<Answer, NoMemory>
-    ensures { IfOk result (λ a. AnswersFields fields.now a.ok a.text) }
+fn answer_fields(alloc: Global, fields: &[&str]) -> Result<Answer, NoMemory>
+    ensures { IfOk result (λ a. AnswersFields (map (λ field. field.now) fields.now) a.ok a.text) }
 {
     let [name, behind @ ..] = fields else {
         return not_built(alloc);
     };
-    let Some(command) = command_named(name.as_str()) else {
+    let Some(command) = command_named(name) else {
         return not_built(alloc);
     };
     let answer = answer_command(alloc, command, behind)?;
@@ -102,13 +96,13 @@ fn answer_fields(alloc: Global, fields: &[Text]) -> Result<Answer, NoMemory>
 
 /// The answer to the line of these fields.
 #[tactic(auto, unfolding(crate::specs::Answers::IsAnswer))]
-pub fn answer(alloc: Global, fields: &Fields) -> Result<Answer, NoMemory>
-    ensures { IfOk result (λ a. IsAnswer fields.now a.ok a.text) }
+pub fn answer(alloc: Global, fields: &[&str]) -> Result<Answer, NoMemory>
+    ensures { IfOk result (λ a. IsAnswer (map (λ field. field.now) fields.now) a.ok a.text) }
 {
     if joined_length(fields) > MOST_BYTES {
         let answer = refused(alloc, "no\t1 LineTooLong\t-")?;
         return Ok(answer);
     }
-    let answer = answer_fields(alloc, fields.as_slice())?;
+    let answer = answer_fields(alloc, fields)?;
     Ok(answer)
 }

@@ -1,25 +1,8 @@
 ghost use Rattle.std.specs.Prelude.{◌≡◌};
-ghost use Rattle.vx_cli.specs.Answers.{scheme_named, domain_named, end_kind_text, part_text, back_kind_text};
+ghost use Rattle.vx_cli.specs.Answers.{domain_named, end_kind_text, part_text, back_kind_text};
 
-use vx_scheme::{Domain, EndKind, SchemeName};
+use vx_scheme::{Domain, EndKind};
 use vx_translate::{BackKind, VersPart};
-
-/// The scheme of this name.
-pub fn scheme_named(text: &str) -> Option<SchemeName>
-    ensures { result ≡ scheme_named text.now }
-{
-    match text {
-        "npm" => Some(SchemeName::Npm),
-        "pypi" => Some(SchemeName::Pypi),
-        "maven" => Some(SchemeName::Maven),
-        "gem" => Some(SchemeName::Gem),
-        "deb" => Some(SchemeName::Deb),
-        "rpm" => Some(SchemeName::Rpm),
-        "nuget" => Some(SchemeName::Nuget),
-        "cargo" => Some(SchemeName::Cargo),
-        _ => None,
-    }
-}
 
 /// The domain that the text names, or none for `-`, which means the scheme's default.
 pub fn domain_named(text: &str) -> Option<Option<Domain>>

@@ -14,7 +14,7 @@ pub fn answer_purl(alloc: Global, text: &str) -> Result<Answer, NoMemory>
 {
     match canonical(alloc, text) {
         Ok(canonical) => {
-            let answer = accepted(alloc, canonical.as_str())?;
+            let answer = accepted(canonical)?;
             Ok(answer)
         }
         Err(fault) => {

@@ -11,20 +11,31 @@ use std::alloc::Global;
 use vx_scheme::{NoMemory, Text};
 use vx_translate::Refusal;
 
+// Room for the line of a refusal with its place.
+const MOST_OF_A_REFUSAL: usize = 64;
+
 /// The answer that a line is refused with this text.
 pub fn refused(alloc: Global, line: &str) -> Result<Answer, NoMemory>
     ensures { IfOk result (λ a. (a.ok ≡ false) × (a.text ≡ line.now)) }
 {
-    let mut text = Text::new(alloc);
-    text.push_str(line)?;
+    let text = line_with(alloc, line)?;
     Ok(Answer { ok: false, text })
+}
+
+/// The text of a line, with room for its line feed.
+pub fn line_with(alloc: Global, line: &str) -> Result<Text, NoMemory>
+    ensures { IfOk result (λ text. text ≡ line.now) }
+{
+    let mut text = Text::with_room(alloc, line.len().saturating_add(1))?;
+    text.push_str(line)?;
+    Ok(text)
 }
 
 // The beginning of a line, and a place.
 fn placed(alloc: Global, front: &str, at: u128) -> Result<Text, NoMemory>
     ensures { IfOk result (λ text. text ≡ front.now ++ numeral_text at) }
 {
-    let mut text = Text::new(alloc);
+    let mut text = Text::with_room(alloc, MOST_OF_A_REFUSAL)?;
     text.push_str(front)?;
     text.push_number(at)?;
     Ok(text)
@@ -34,19 +45,11 @@ fn placed(alloc: Global, front: &str, at: u128) -> Result<Text, NoMemory>
 fn kind_placed(alloc: Global, front: &str, kind: &str, at: u128) -> Result<Text, NoMemory>
     ensures { IfOk result (λ text. text ≡ (front.now ++ kind.now) ++ (codes " " ++ numeral_text at)) }
 {
-    let mut text = Text::new(alloc);
+    let mut text = Text::with_room(alloc, MOST_OF_A_REFUSAL)?;
     text.push_str(front)?;
     text.push_str(kind)?;
     text.push_str(" ")?;
     text.push_number(at)?;
-    Ok(text)
-}
-
-fn plain(alloc: Global, line: &str) -> Result<Text, NoMemory>
-    ensures { IfOk result (λ text. text ≡ line.now) }
-{
-    let mut text = Text::new(alloc);
-    text.push_str(line)?;
     Ok(text)
 }
 
@@ -56,21 +59,21 @@ fn line_of(alloc: Global, refusal: Refusal) -> Result<Text, NoMemory>
     ensures told { IfOk result (λ _. refusal ≢ refusal_of.NoMemory) }
 {
     match refusal {
-        Refusal::DomainNotOffered => plain(alloc, "no\t6 DomainNotOffered\t-"),
+        Refusal::DomainNotOffered => line_with(alloc, "no\t6 DomainNotOffered\t-"),
         Refusal::Syntax(at) => placed(alloc, "no\t7 Syntax\t", at as u128),
         Refusal::Numeral(at) => placed(alloc, "no\t8 Numeral\t", at as u128),
         Refusal::NoEndpoint(kind, at) => {
             kind_placed(alloc, "no\t9 NoEndpoint\t", end_kind_text(kind), at as u128)
         }
-        Refusal::Empty => plain(alloc, "no\t10 Empty\t-"),
+        Refusal::Empty => line_with(alloc, "no\t10 Empty\t-"),
         Refusal::BadVers(part, k) => {
             kind_placed(alloc, "no\t11 BadVers\t", part_text(part), k as u128)
         }
-        Refusal::BadVersion => plain(alloc, "no\t12 BadVersion\t-"),
+        Refusal::BadVersion => line_with(alloc, "no\t12 BadVersion\t-"),
         Refusal::NoNative(kind, k) => {
             kind_placed(alloc, "no\t13 NoNative\t", back_kind_text(kind), k as u128)
         }
-        Refusal::NotBuilt => plain(alloc, "no\t0 NotBuilt\t-"),
+        Refusal::NotBuilt => line_with(alloc, "no\t0 NotBuilt\t-"),
         Refusal::NoMemory => Err(NoMemory),
     }
 }
@@ -90,9 +93,9 @@ fn purl_line_of(alloc: Global, fault: PurlFault) -> Result<Text, NoMemory>
     ensures told { IfOk result (λ _. fault ≢ purl_fault_of.NoMemory) }
 {
     match fault {
-        PurlFault::Scheme => plain(alloc, "no\t14 BadPurl\tScheme 0"),
-        PurlFault::BadType => plain(alloc, "no\t14 BadPurl\tType 0"),
-        PurlFault::Name => plain(alloc, "no\t14 BadPurl\tName 0"),
+        PurlFault::Scheme => line_with(alloc, "no\t14 BadPurl\tScheme 0"),
+        PurlFault::BadType => line_with(alloc, "no\t14 BadPurl\tType 0"),
+        PurlFault::Name => line_with(alloc, "no\t14 BadPurl\tName 0"),
         PurlFault::Escape(at) => placed(alloc, "no\t14 BadPurl\tEscape ", at as u128),
         PurlFault::NotText(at) => placed(alloc, "no\t14 BadPurl\tNotText ", at as u128),
         PurlFault::Qualifier(at) => placed(alloc, "no\t14 BadPurl\tQualifier ", at as u128),

@@ -61,6 +61,7 @@ pub fn run<R: Source, W: Sink>(
     // Whatever it ends with, the sink is as it was, or it got a front of an answer line.
     ensures front { (sink.new ≡ sink.old) ⊎ AppendsAnswerFront (texts words.now.items) (W.held sink.old) (W.held sink.new) }
     ensures write { result ≡ Status.WriteFault → Rose (W.faults sink.old) (W.faults sink.new) }
+    ensures no_memory { result ≡ Status.NoMemory → sink.new ≡ sink.old }
 {
     if is_usage_fault(words) {
         return Status::Usage;
@@ -75,6 +76,7 @@ fn run_line<W: Sink>(alloc: Global, words: &Vec<String>, sink: &mut W) -> Status
     ensures count { (ok : Bool) → result ≡ ended_with ok → W.faults sink.new ≡ W.faults sink.old }
     ensures front { (sink.new ≡ sink.old) ⊎ AppendsAnswerFront (texts words.now.items) (W.held sink.old) (W.held sink.new) }
     ensures write { result ≡ Status.WriteFault → Rose (W.faults sink.old) (W.faults sink.new) }
+    ensures no_memory { result ≡ Status.NoMemory → sink.new ≡ sink.old }
     ensures no_usage { result ≢ Status.Usage }
     ensures no_read_fault { result ≢ Status.ReadFault }
     ensures no_limit { result ≢ Status.InputLimit }
@@ -89,6 +91,8 @@ fn run_line<W: Sink>(alloc: Global, words: &Vec<String>, sink: &mut W) -> Status
 fn words_answer(alloc: Global, words: &Vec<String>) -> Result<Answer, NoMemory>
     ensures { IfOk result (λ a. IsAnswer (texts words.now.items) a.ok a.text) }
 {
-    let fields = fields_of(alloc, words)?;
-    answer(alloc, &fields)
+    match fields_of(alloc, words) {
+        Ok(fields) => answer(alloc, &fields),
+        Err(_) => Err(NoMemory),
+    }
 }

@@ -1,21 +1,21 @@
 ghost use Rattle.std.specs.Prelude.{◌≡◌, ◌++◌, true, IfOk, codes};
-ghost use Rattle.vx_translate.specs.FromVers.{meant};
-ghost use Rattle.vx_cli.specs.Answers.{AnswersRange, AnswersScheme, AnswersBack, AnswersCanon, AnswersHas, decided_text, domain_named, scheme_named};
+ghost use Rattle.vx_scheme.specs.Names.{scheme_named};
+ghost use Rattle.vx_translate.specs.Domains.{chosen_domain};
+ghost use Rattle.vx_cli.specs.Answers.{AnswersRange, AnswersScheme, AnswersBack, AnswersCanon, AnswersHas, decided_text, domain_named};
 
-use crate::names::{domain_named, scheme_named};
-use crate::refusing::{refused, refused_by};
+use crate::names::domain_named;
+use crate::refusing::{line_with, refused, refused_by};
 use crate::reply::Answer;
 use std::alloc::Global;
 use vx_scheme::{Domain, NoMemory, SchemeName, Text};
-use vx_translate::{canon, default_domain, from_vers, has, to_vers};
+use vx_translate::{canon, chosen_domain, from_vers, has, to_vers};
 
 /// The answer that a line is accepted, with this text.
-pub fn accepted(alloc: Global, found: &str) -> Result<Answer, NoMemory>
-    ensures { IfOk result (λ a. (a.ok ≡ true) × (a.text ≡ codes "ok\t" ++ found.now)) }
+pub fn accepted(found: Text) -> Result<Answer, NoMemory>
+    ensures { IfOk result (λ a. (a.ok ≡ true) × (a.text ≡ codes "ok\t" ++ found)) }
 {
-    let mut text = Text::new(alloc);
-    text.push_str("ok\t")?;
-    text.push_str(found)?;
+    let mut text = found;
+    text.push_front("ok\t")?;
     Ok(Answer { ok: true, text })
 }
 
@@ -23,21 +23,8 @@ pub fn accepted(alloc: Global, found: &str) -> Result<Answer, NoMemory>
 pub fn decided(alloc: Global, decision: bool) -> Result<Answer, NoMemory>
     ensures { IfOk result (λ a. (a.ok ≡ true) × (a.text ≡ codes "ok\t" ++ decided_text decision)) }
 {
-    if decision {
-        accepted(alloc, "yes")
-    } else {
-        accepted(alloc, "no")
-    }
-}
-
-// The domain that is named, or the default of the scheme where none is.
-fn meant(domain: Option<Domain>, name: SchemeName) -> Domain
-    ensures { result ≡ meant domain name }
-{
-    match domain {
-        None => default_domain(name),
-        Some(domain) => domain,
-    }
+    let text = line_with(alloc, if decision { "ok\tyes" } else { "ok\tno" })?;
+    Ok(Answer { ok: true, text })
 }
 
 // The answer to a translation in a domain.
@@ -51,7 +38,7 @@ fn answer_range(
 {
     match to_vers(alloc, name, domain, range) {
         Ok(text) => {
-            let answer = accepted(alloc, text.as_str())?;
+            let answer = accepted(text)?;
             Ok(answer)
         }
         Err(refusal) => {
@@ -70,7 +57,7 @@ pub fn answer_to_vers(
 ) -> Result<Answer, NoMemory>
     ensures { IfOk result (λ a. AnswersScheme (scheme_named scheme.now) domain.now range.now a.ok a.text) }
 {
-    let Some(name) = scheme_named(scheme) else {
+    let Some(name) = SchemeName::named(scheme) else {
         let answer = refused(alloc, "no\t4 BadScheme\t-")?;
         return Ok(answer);
     };
@@ -78,7 +65,7 @@ pub fn answer_to_vers(
         let answer = refused(alloc, "no\t5 BadDomain\t-")?;
         return Ok(answer);
     };
-    let answer = answer_range(alloc, name, meant(domain, name), range)?;
+    let answer = answer_range(alloc, name, chosen_domain(domain, name), range)?;
     Ok(answer)
 }
 
@@ -92,7 +79,7 @@ pub fn answer_from_vers(alloc: Global, domain: &str, text: &str) -> Result<Answe
     };
     match from_vers(alloc, domain, text) {
         Ok(range) => {
-            let answer = accepted(alloc, range.as_str())?;
+            let answer = accepted(range)?;
             Ok(answer)
         }
         Err(refusal) => {
@@ -108,7 +95,7 @@ pub fn answer_canon(alloc: Global, text: &str) -> Result<Answer, NoMemory>
 {
     match canon(alloc, text) {
         Ok(canonical) => {
-            let answer = accepted(alloc, canonical.as_str())?;
+            let answer = accepted(canonical)?;
             Ok(answer)
         }
         Err(refusal) => {

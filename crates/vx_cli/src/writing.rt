@@ -25,6 +25,7 @@ pub fn put_line<W: Sink>(answer: Answer, sink: &mut W) -> Result<bool, PutFault>
         × (W.faults sink.new ≡ W.faults sink.old)) }
     ensures front { AppendsFront (W.held sink.old) (W.held sink.new) (line_of answer.text) }
     ensures write { IsErrOf result PutFault.Failed → Rose (W.faults sink.old) (W.faults sink.new) }
+    ensures no_memory { IsErrOf result PutFault.NoMemory → sink.new ≡ sink.old }
 {
     let Answer { ok, mut text } = answer;
     if text.push_str("\n").is_err() {

@@ -1,22 +1,22 @@
 -- The joined spans of bounds are determined, and how a set comes to be them.
-use Rattle.std.proofs.Common.{arith, length, take_all, take-add, subst, ◌+◌, take, drop, ℕ, ◌≡◌, Bool, false, not, ◌&&◌, ◌||◌, List, [], ◌∷◌, ◌++◌, Option, Some, None, refl, sym, ap, ◌∙◌}
+use Rattle.std.proofs.Common.{subst, ◌≡◌, Bool, false, not, ◌&&◌, ◌||◌, List, [], ◌∷◌, ◌++◌, Option, Some, None, refl, sym, ap, ◌∙◌}
 use Rattle.std.specs.declared.cmp.Ordering.{Ordering}
 use Rattle.std.specs.Cmp.{IsTotalOrder}
 use Rattle.std.specs.Ordering.{is_gt}
 use Rattle.std.specs.List.{AllByRecursion}
 use Rattle.vx_scheme.specs.declared.span.Cut.{Cut}
 use Rattle.vx_scheme.specs.declared.span.Span.{Span}
-use Rattle.vx_scheme.specs.Cuts.{cut_cmp, IsInOrder}
+use Rattle.vx_scheme.specs.Cuts.{cut_cmp}
 use Rattle.vx_spec.specs.Ascending.{IsAscending}
+use Rattle.vx_line.specs.Pieces.{cuts_below, changes_of}
+use Rattle.vx_line.proofs.ChangeLaws.{All-changes, changes_in_order, changes_mean}
+use Rattle.vx_interval.specs.declared.line.Line.{Line}
+use Rattle.vx_interval.specs.Steps.Lines.{IsLineOf}
 use Rattle.vx_line.specs.Line.{IsPlace, IsLevel, is_in, judged}
-use Rattle.vx_line.specs.Merges.{merge_by}
-use Rattle.vx_line.specs.Least.{first_least, least_of_both, unite}
-use Rattle.vx_line.proofs.Merging.{merge_means}
-use Rattle.vx_line.proofs.InOrder.{merge_in_order}
+use Rattle.vx_line.specs.Least.{first_least}
 use Rattle.vx_line.proofs.Judging.{Depends, each, judged_same, judged_means, judged_in_order, All-judged}
 use Rattle.vx_line.proofs.Unique.{above_cut, unique, unique_start}
-use Rattle.vx_line.proofs.LeastLaws.{first_least-level, All-first_least, each_found, first_least-alike, own_least, unite_means, unite_in_order, first_least-append}
-use Rattle.vx_line.proofs.Changing.{cuts_are_made, All-kept}
+use Rattle.vx_line.proofs.LeastLaws.{first_least-level, All-first_least, each_found, first_least-alike, own_least}
 use Rattle.vx_scheme.specs.Cuts.{cuts_of, cut_list, starts_of, spans_of, spans_at, terms_at, bounds_at, is_over, is_under}
 use Rattle.vx_interval.specs.Joined.{terms_cuts, made_cuts, mark_of, IsLeastOf, IsJoined, IsLine, judged_spans}
 use Rattle.vx_interval.proofs.SpanLaws.{cut_total, spans_alike, cuts_of_spans_of, seen_in_order}
@@ -24,10 +24,6 @@ use Rattle.vx_interval.proofs.SpanLaws.{cut_total, spans_alike, cuts_of_spans_of
 parts : {X : Type 0} → (P : X → Type 0) (xs ys : List X) → AllByRecursion P (xs ++ ys) → AllByRecursion P xs × AllByRecursion P ys
 parts P [] ys h = (tt, h)
 parts P (x ∷ xs) ys h = let rest = parts P xs ys h.1 in ((h.0, rest.0), rest.1)
-
--- all of a queue's cuts are taken off it
-pub whole_queue : {X : Type 0} → (queue vec made : List X) (count : ℕ) → queue ≡ vec → vec ≡ made → count ≡ length made → take count queue ≡ made
-whole_queue queue vec made count e f n = (λ i. take (n i) ((e ∙ f) i)) ∙ take_all (length made) made (omega arith)
 
 -- what bounds say of a piece depends on their cuts alone
 module _ {V : Type 0} (b b' : Cut V → Bool) where
@@ -83,59 +79,29 @@ module _ {V : Type 0} {order : V → V → Ordering} (o : IsTotalOrder order) wh
       let cuts = same_carried (made_cuts bounds) (cuts_of s) (cuts_of t) level j.carried k.carried in
       sym j.in_order.apart ∙ (λ i. spans_of (starts i) (cuts i)) ∙ k.in_order.apart
 
-  -- ---- two tables of neighbouring parts make one
-  pub table_united : (made left a b table : List (Cut V)) (h k n : ℕ) → IsLine order (take h made) a → left ≡ drop h made → IsLine order (take k left) b → table ≡ unite mark_of (cut_cmp order) a b → n ≡ h + k → IsLine order (take n made) table
-  table_united made left a b table h k n ta left_is tb table_is n_is = record {
-    in_order = rw table_is (unite_in_order mark_of (cut_total o) a b ta.in_order tb.in_order);
-    least = λ c.
-        ap (first_least mark_of (cut_cmp order) c) table_is
-        ∙ unite_means mark_of (cut_total o) c a b ta.in_order tb.in_order
-        ∙ (λ i. least_of_both mark_of (ta.least c i) (tb.least c i))
-        ∙ sym (first_least-append mark_of (cut_cmp order) c (take h made) (take k left))
-        ∙ ap (first_least mark_of (cut_cmp order) c) ((λ i. take h made ++ take k (left_is i)) ∙ sym (take-add h k made) ∙ ap (λ m. take m made) (sym n_is));
-  }
-
-  -- ---- the set, with the table's cuts in place of its own
+  -- ---- the cuts of a line are the least of the made ones
   carry : (made table : List (Cut V)) → IsLine order made table → (items : List (Cut V)) → AllByRecursion (λ c. first_least mark_of (cut_cmp order) c table ≡ Some c) items → AllByRecursion (λ c. IsLeastOf order made c) items
   carry made table t [] h = tt
   carry made table t (c ∷ items) h = (sym (t.least c) ∙ h.0, carry made table t items h.1)
 
-  cover : (made table : List (Cut V)) → IsLine order made table → (items : List (Cut V)) → AllByRecursion (λ c. first_least mark_of (cut_cmp order) c made ≡ None → ⊥) items → AllByRecursion (λ c. first_least mark_of (cut_cmp order) c table ≡ None → ⊥) items
-  cover made table t [] h = tt
-  cover made table t (c ∷ items) h = ((λ n. h.0 (sym (t.least c) ∙ n)), cover made table t items h.1)
-
-  module _ (bounds : List (List (List (Span V)))) (table : List (Cut V)) (set joined : List (Span V))
-      (t : IsLine order (made_cuts bounds) table)
-      (pieces : (below : Cut V → Bool) → IsPlace (cut_cmp order) below → spans_at below set ≡ bounds_at below bounds)
-      (joined_is : joined ≡ spans_of (starts_of set) (merge_by (cut_cmp order) (λ p q. q) false table (starts_of set) (cuts_of set)))
-      (in_order : IsInOrder order set) where
-    abbrev kept : List (Cut V)
-    kept = merge_by (cut_cmp order) (λ p q. q) false table (starts_of set) (cuts_of set)
-
-    kept_rises : IsAscending (cut_cmp order) kept
-    kept_rises = merge_in_order (cut_total o) (λ p q. q) false table (starts_of set) (cuts_of set) t.in_order in_order.rising
-
-    set_says : (below : Cut V → Bool) → IsPlace (cut_cmp order) below → is_in below (starts_of set) (cuts_of set) ≡ bounds_at below bounds
-    set_says below place = sym (spans_alike order place (starts_of set) (cuts_of set) in_order.rising) ∙ ap (spans_at below) in_order.apart ∙ pieces below place
-
-    covered : AllByRecursion (λ c. first_least mark_of (cut_cmp order) c table ≡ None → ⊥) (cuts_of set)
-    covered = cover (made_cuts bounds) table t (cuts_of set) (cuts_are_made mark_of (cut_total o) (made_cuts bounds) (λ b. bounds_at b bounds) (λ b b' h. bounds_same b b' bounds h) (starts_of set) (cuts_of set) set_says in_order.rising)
-
-    kept_carried : AllByRecursion (λ c. IsLeastOf order (made_cuts bounds) c) kept
-    kept_carried = All-kept mark_of (cut_total o) (λ c. IsLeastOf order (made_cuts bounds) c) false table (starts_of set) (cuts_of set) (carry (made_cuts bounds) table t table (own_least mark_of (cut_total o) table t.in_order)) t.in_order in_order.rising covered
-
-    cuts_are : cuts_of joined ≡ kept
-    cuts_are = ap cuts_of joined_is ∙ cuts_of_spans_of (starts_of set) kept
-
-    pub joined_of : IsJoined order bounds joined
-    joined_of = record {
-      pieces = λ below place.
-          ap (spans_at below) joined_is ∙ spans_alike order place (starts_of set) kept kept_rises
-          ∙ merge_means (cut_total o) place (λ p q. q) false table (starts_of set) (cuts_of set) t.in_order in_order.rising
-          ∙ set_says below place;
-      in_order = seen_in_order order (starts_of set) kept joined (sym joined_is) kept_rises;
-      carried = subst (AllByRecursion (λ c. IsLeastOf order (made_cuts bounds) c)) (sym cuts_are) kept_carried;
-    }
+  -- ---- the cuts at which the line of bounds changes
+  pub changes_joined : (bounds : List (List (List (Span V)))) (line : Line V) (changes : List (Cut V)) → IsLineOf order (made_cuts bounds) (λ below. bounds_at below bounds) line → changes ≡ changes_of line.starts line.pieces → IsJoined order bounds (spans_of line.starts changes) × IsAscending (cut_cmp order) changes
+  changes_joined bounds line changes l changes_are =
+      let rise : IsAscending (cut_cmp order) changes = subst (IsAscending (cut_cmp order)) (sym changes_are) (changes_in_order (cut_total o) line.starts line.pieces l.cuts.in_order) in
+      let least : AllByRecursion (IsLeastOf order (made_cuts bounds)) changes =
+      subst (AllByRecursion (IsLeastOf order (made_cuts bounds))) (sym changes_are)
+      (All-changes (IsLeastOf order (made_cuts bounds)) line.starts line.pieces (carry (made_cuts bounds) (cuts_below line.pieces) l.cuts (cuts_below line.pieces) (own_least mark_of (cut_total o) (cuts_below line.pieces) l.cuts.in_order))) in (
+        record {
+          pieces = λ below place.
+              spans_alike order place line.starts changes rise
+              ∙ ap (is_in below line.starts) changes_are
+              ∙ changes_mean (cut_total o) place line.starts line.pieces l.cuts.in_order
+              ∙ l.pieces below place;
+          in_order = seen_in_order order line.starts changes (spans_of line.starts changes) refl rise;
+          carried = subst (AllByRecursion (IsLeastOf order (made_cuts bounds))) (sym (cuts_of_spans_of line.starts changes)) least;
+        },
+        rise,
+      )
 
   -- ---- each piece between neighbouring cuts of the line, judged
   module _ (bounds : List (List (List (Span V)))) (line : List (Cut V)) (t : IsLine order (made_cuts bounds) line) where

@@ -1,9 +1,9 @@
 -- What spans hold at a place, by their cuts.
 use Rattle.std.proofs.lemmas.List.{at_drop_more}
-use Rattle.std.proofs.Common.{ℕ, ◌<◌, length, get_or, drop, ◌≡◌, Bool, true, false, ◌&&◌, ◌||◌, not, cond, List, [], ◌∷◌, Option, Some, None, refl, sym, ap, subst, ◌∙◌, All}
+use Rattle.std.proofs.Common.{ℕ, ◌<◌, length, get_or, drop, ◌≡◌, Bool, true, false, ◌&&◌, ◌||◌, not, cond, List, [], ◌∷◌, Option, Some, refl, sym, ap, subst, ◌∙◌, All}
 use Rattle.std.specs.declared.cmp.Ordering.{Ordering}
 use Rattle.std.specs.declared.cmp.Ordering.TheVariants.{Less, Equal, Greater}
-use Rattle.std.specs.Ordering.{ordering_then, ordering_reverse, bool_cmp, is_lt}
+use Rattle.std.specs.Ordering.{ordering_then, ordering_reverse, bool_cmp}
 use Rattle.std.specs.Cmp.{IsTotalOrder, bool_cmp_total}
 use Rattle.std.specs.List.{AllByRecursion}
 use Rattle.std.proofs.lemmas.Cmp.{on_total, then_total}
@@ -13,8 +13,8 @@ use Rattle.vx_scheme.specs.Cuts.{cut_cmp, cut_below, stands_below}
 use Rattle.vx_spec.specs.Ascending.{IsAscending}
 use Rattle.vx_line.specs.Line.{IsPlace, IsFirstKept, IsMerged, is_in, join_by}
 use Rattle.vx_line.proofs.PlaceLaws.{is_in-not}
-use Rattle.vx_scheme.specs.Cuts.{spans_of, cuts_of, starts_of, spans_at, span_at, in_spans, IsInOrder}
-use Rattle.vx_interval.specs.Sets.{one_span, spans_from}
+use Rattle.vx_scheme.specs.Cuts.{spans_of, cuts_of, starts_of, spans_at, in_spans, IsInOrder}
+use Rattle.vx_interval.specs.Steps.Opened.{spans_from}
 
 -- spans give back the cuts that they were made of
 pub cuts_of_spans_of : {V : Type 0} → (starts : Bool) (cuts : List (Cut V)) → cuts_of (spans_of starts cuts) ≡ cuts
@@ -56,15 +56,6 @@ pair : (b b' t u : Bool) → (b ≡ false → t ≡ false) → (b' ≡ false →
 pair true b' t u f g h = both_ways b' t u g h
 pair false b' t u f g h = f refl
 
-empty_span : (b b' : Bool) → (b' ≡ false → b ≡ false) → false ≡ (b && not b')
-empty_span true true f = refl
-empty_span true false f = sym (f refl)
-empty_span false b' f = refl
-
-last_span : (b : Bool) → (b || false) ≡ b
-last_span true = refl
-last_span false = refl
-
 module _ {V : Type 0} (order : V → V → Ordering) {below : Cut V → Bool} (place : IsPlace (cut_cmp order) below) where
   none_in_spans : (c : Cut V) (cuts : List (Cut V)) → AllByRecursion (λ d. cut_cmp order c d ≡ Less) cuts → below c ≡ false → spans_at below (spans_of false cuts) ≡ false
   none_in_spans c [] h n = refl
@@ -84,20 +75,6 @@ module _ {V : Type 0} (order : V → V → Ordering) {below : Cut V → Bool} (p
 module _ {V : Type 0} {order : V → V → Ordering} (o : IsTotalOrder order) where
   pub cut_total : IsTotalOrder (cut_cmp order)
   cut_total = then_total (on_total (λ (c : Cut V). c.version) o) (on_total {J = Bool} (λ (c : Cut V). c.after) bool_cmp_total)
-
-  -- a span alone: where its ends do not rise it covers nothing
-  one_by : (below : Cut V → Bool) → IsPlace (cut_cmp order) below → (c d : Cut V) (r : Ordering) → cut_cmp order c d ≡ r → spans_at below (cond (is_lt r) (record { lower = Some c; upper = Some d } ∷ []) []) ≡ (below c && not (below d))
-  one_by below place c d Less e = last_span (below c && not (below d))
-  one_by below place c d Equal e = empty_span (below c) (below d) (λ n. place.alike c d e ∙ n)
-  one_by below place c d Greater e = empty_span (below c) (below d) (λ n. place.upward d c (cut_total.antisymm d c ∙ ap ordering_reverse e) n)
-
-  one_ends : (below : Cut V → Bool) → IsPlace (cut_cmp order) below → (lower upper : Option (Cut V)) → spans_at below (one_span order (record { lower = lower; upper = upper })) ≡ span_at below (record { lower = lower; upper = upper })
-  one_ends below place None upper = last_span _
-  one_ends below place (Some c) None = last_span _
-  one_ends below place (Some c) (Some d) = one_by below place c d (cut_cmp order c d) refl
-
-  pub one_means : (below : Cut V → Bool) → IsPlace (cut_cmp order) below → (span : Span V) → spans_at below (one_span order span) ≡ span_at below span
-  one_means below place span = one_ends below place span.lower span.upper
 
   -- a version is a place
   same_version : (v : V) (b d : Bool) (r : Ordering) → bool_cmp b d ≡ Less → stands_below r b ≡ false → stands_below r d ≡ false

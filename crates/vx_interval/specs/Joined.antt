@@ -8,7 +8,7 @@ use Rattle.vx_scheme.specs.declared.span.Span.{Span}
 use Rattle.vx_scheme.specs.Cuts.{cut_cmp, cuts_of, spans_of, spans_at, bounds_at, IsInOrder}
 use Rattle.vx_line.specs.Line.{judged}
 use Rattle.vx_line.specs.Least.{first_least}
-use Rattle.vx_interval.specs.Sets.{AtEachPlace}
+use Rattle.vx_interval.specs.Places.{AtEachPlace}
 
 -- the cuts of an alternative, read from left to right, lower before upper
 abbrev pub terms_cuts : {V : Type 0} → List (List (Span V)) → List (Cut V)

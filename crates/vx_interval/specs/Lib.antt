@@ -1,3 +1,3 @@
 pub mod Joined
-pub mod Operations
-pub mod Sets
+pub mod Places
+pub mod Steps

@@ -6,10 +6,11 @@ ghost use Rattle.vx_scheme.specs.declared.span.Cut.{Cut};
 ghost use Rattle.vx_scheme.specs.declared.span.Span.{Span};
 ghost use Rattle.vx_scheme.specs.Cuts.{cut_cmp, bounds_at};
 ghost use Rattle.vx_line.specs.Line.{IsMerged};
-ghost use Rattle.vx_interval.specs.Sets.{AtEachPlace};
+ghost use Rattle.vx_interval.specs.Places.{AtEachPlace};
 ghost use Rattle.vx_interval.specs.Joined.{IsJoined, IsLine, made_cuts, judged_spans};
 
-use crate::merging::Compares;
+use crate::compares::Compares;
+use std::sync::ledger::Ledger;
 use vx_scheme::Scheme;
 
 /// Bounds have one list of joined spans.
@@ -35,7 +36,7 @@ pub fn joined_none<S: Scheme>()
 {}
 
 /// Two lists of cuts in order have one merged list.
-pub fn merged_unique<C: Compares>()
+pub fn merged_unique<C: Compares<L>, L: Ledger>()
     ensures { (both a_starts b_starts : Bool) (a b cuts others : List (Cut C.Item)) →
         IsAscending (cut_cmp C.order) a → IsAscending (cut_cmp C.order) b →
         IsMerged (cut_cmp C.order) both a_starts a b_starts b cuts →

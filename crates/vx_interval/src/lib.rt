@@ -2,15 +2,17 @@
 #![tactic(auto)]
 
 mod bounds;
+mod compares;
 mod counter;
-mod fold;
 mod laws;
+mod line;
 mod merging;
-mod operation;
+mod part;
 mod set;
-mod table;
 
+pub use bounds::{Joined, join_bounds};
+pub use compares::{Compares, Counted};
 pub use counter::Steps;
 pub use laws::{joined_none, joined_unique, judged_joined, merged_unique};
-pub use merging::{Compares, Counted, Cuts, merge};
+pub use merging::{Cuts, merge};
 pub use set::Set;

@@ -1,15 +1,13 @@
-ghost use Rattle.std.specs.Prelude.{◌≡◌, ◌<◌, ◌↔◌, ◌++◌, ◌∷◌, List, [], true, false, Bool, None, IsTrue, IfOk, OnOk, IsOkAnd, All, not, ◌&&◌, ◌||◌};
-ghost use Rattle.std.specs.Ordering.{is_lt};
+ghost use Rattle.std.specs.Prelude.{◌≡◌, ◌↔◌, ◌++◌, ◌∷◌, List, [], true, false, None, IsTrue, IfOk, IsOkAnd, All, not, ◌&&◌, ◌||◌};
 ghost use Rattle.vx_spec.specs.Ascending.{IsAscending};
 ghost use Rattle.vx_scheme.specs.declared.span.Cut.{Cut};
 ghost use Rattle.vx_scheme.specs.declared.span.Span.{Span};
 ghost use Rattle.vx_scheme.specs.Cuts.{cut_cmp, cut_below, cuts_of, starts_of, spans_of, spans_at, in_spans, IsInOrder};
 ghost use Rattle.vx_line.specs.Line.{IsFirstKept, is_in, join_by};
-ghost use Rattle.vx_line.specs.Merges.{merge_by};
-ghost use Rattle.vx_interval.specs.Sets.{AtEachPlace, one_span, spans_from};
+ghost use Rattle.vx_interval.specs.Places.{AtEachPlace};
+ghost use Rattle.vx_interval.specs.Steps.Opened.{spans_from};
 
-use crate::merging::{Cuts, merge_versions, take_from_table};
-use crate::operation::Operation;
+use crate::merging::{Cuts, join_values, merge_versions};
 use std::alloc::Global;
 use std::cmp::Ordering;
 use std::marker::{Brand, Model};
@@ -102,7 +100,8 @@ impl<S: Scheme> Set<S> {
 
     /// Whether the version is in the set. It takes no memory.
     pub fn contains(&self, version: &S::Version) -> bool
-        ensures { result ≡ in_spans S.order self.now version.now }
+        ensures within { result ≡ in_spans S.order self.now version.now }
+        ensures in_order { IsInOrder S.order self.now }
     {
         let mut inside = self.starts;
         for cut in self.cuts.as_slice() {
@@ -116,7 +115,8 @@ impl<S: Scheme> Set<S> {
 
     /// Whether there is no span. It takes no memory.
     pub fn is_none(&self) -> bool
-        ensures { IsTrue result ↔ (self.now ≡ []) }
+        ensures none { IsTrue result ↔ (self.now ≡ []) }
+        ensures in_order { IsInOrder S.order self.now }
     {
         !self.starts && self.cuts.is_empty()
     }
@@ -131,8 +131,8 @@ impl<S: Scheme> Set<S> {
         Ok(spans)
     }
 
-    /// The set of the pieces that are in: that below the first cut where `starts_in` says so, and each cut changes in
-    /// to out or out to in. It takes no memory.
+    /// The set of the pieces that are in: that below the first cut where `starts_in` says so, and
+    /// each cut changes in to out or out to in. It takes no memory.
     pub fn from_cuts(starts_in: bool, cuts: Cuts<S::Version>) -> Set<S>
         requires { IsAscending (cut_cmp S.order) cuts }
         ensures spans { result ≡ spans_of starts_in cuts }
@@ -148,7 +148,8 @@ impl<S: Scheme> Set<S> {
 
     /// Whether the piece below the first cut is in. It takes no memory.
     pub fn starts_in(&self) -> bool
-        ensures { result ≡ starts_of self.now }
+        ensures starts { result ≡ starts_of self.now }
+        ensures in_order { IsInOrder S.order self.now }
     {
         self.starts
     }
@@ -176,65 +177,8 @@ impl<S: Scheme> Set<S> {
         let Set { starts: q, cuts: b } = other;
         let alloc = a.alloc();
         let cuts = merge_versions::<S, Brand>(Blank::new(1), alloc, both, p, a, q, b)?;
-        let operation = Operation::joining(both);
-        let starts = operation.apply(p, q);
+        let starts = join_values(both, p, q);
         Ok(Set { starts, cuts })
-    }
-
-    /// The same set, with those cuts of a table that are order-equal to its own.
-    pub(crate) fn relabel(self, table: Cuts<S::Version>) -> Result<Set<S>, NoMemory>
-        requires { IsAscending (cut_cmp S.order) table }
-        ensures cuts { IfOk result (λ set.
-            set ≡ spans_of (starts_of self)
-            (merge_by (cut_cmp S.order) (λ p q. q) false table (starts_of self) (cuts_of self))) }
-        ensures in_order { OnOk result (IsInOrder S.order self) }
-    {
-        let Set { starts, cuts } = self;
-        let alloc = cuts.alloc();
-        let cuts = take_from_table::<S, Brand>(Blank::new(1), alloc, table, starts, cuts)?;
-        Ok(Set { starts, cuts })
-    }
-
-    /// What one span holds: nothing where its cuts do not rise.
-    pub(crate) fn of_span(alloc: Global, span: Span<S::Version>) -> Result<Set<S>, NoMemory>
-        ensures { IfOk result (λ set. set ≡ one_span S.order span) }
-    {
-        let Span { lower, upper } = span;
-        let mut cuts = Cuts::new(alloc);
-        match (lower, upper) {
-            (None, None) => Ok(Set { starts: true, cuts }),
-            (None, Some(d)) => {
-                cuts.push(d)?;
-                Ok(Set { starts: true, cuts })
-            }
-            (Some(c), None) => {
-                cuts.push(c)?;
-                Ok(Set {
-                    starts: false,
-                    cuts,
-                })
-            }
-            (Some(c), Some(d)) => {
-                if is_less::<S>(&c, &d) {
-                    cuts.push(c)?;
-                    cuts.push(d)?;
-                }
-                Ok(Set {
-                    starts: false,
-                    cuts,
-                })
-            }
-        }
-    }
-}
-
-fn is_less<S: Scheme>(a: &Cut<S::Version>, b: &Cut<S::Version>) -> bool
-    ensures { result ≡ is_lt (cut_cmp S.order a.now b.now) }
-{
-    match S::compare(&a.version, &b.version) {
-        Ordering::Less => true,
-        Ordering::Equal => !a.after && b.after,
-        Ordering::Greater => false,
     }
 }
 
@@ -252,7 +196,8 @@ fn is_below<S: Scheme>(cut: &Cut<S::Version>, version: &S::Version) -> bool
 fn spans_between<V: Drop>(starts: bool, cuts: Cuts<V>) -> Result<Spans<V>, NoMemory>
     ensures { IfOk result (λ spans. spans ≡ spans_of starts cuts) }
 {
-    let mut spans = Spans::new(cuts.alloc());
+    let room = cuts.len() / 2 + if starts { 1 } else { cuts.len() % 2 };
+    let mut spans = Spans::with_room(cuts.alloc(), room)?;
     let mut inside = starts;
     let mut lower = None;
     for cut in cuts.into_vec() {

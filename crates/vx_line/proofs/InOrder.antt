@@ -7,7 +7,7 @@ use Rattle.std.specs.Cmp.{IsTotalOrder}
 use Rattle.std.specs.List.{AllByRecursion}
 use Rattle.vx_spec.specs.Ascending.{IsAscending}
 use Rattle.vx_line.specs.Line.{emit}
-use Rattle.vx_line.specs.Merges.{merge_right, merge_behind, merge_by}
+use Rattle.vx_line.specs.Steps.Merges.{merge_right, merge_behind, merge_by}
 use Rattle.vx_line.proofs.Above.{above_lower, above_alike}
 
 module _ {C : Type 0} where

@@ -7,7 +7,7 @@ use Rattle.std.specs.Cmp.{IsTotalOrder}
 use Rattle.std.specs.List.{AllByRecursion}
 use Rattle.std.proofs.lemmas.Cmp.{tied_itself}
 use Rattle.vx_spec.specs.Ascending.{IsAscending}
-use Rattle.vx_line.specs.Merges.{merge_by}
+use Rattle.vx_line.specs.Steps.Merges.{merge_by}
 use Rattle.vx_line.specs.Least.{first_least}
 use Rattle.vx_line.proofs.InOrder.{All-emit, All-right}
 use Rattle.vx_line.proofs.LeastLaws.{none_level}

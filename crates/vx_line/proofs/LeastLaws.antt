@@ -202,3 +202,9 @@ module _ {C : Type 0} (mark : C → ℕ) {R : C → C → Ordering} (o : IsTotal
   pub each_found : (items : List C) → AllByRecursion (λ c. first_least mark R c items ≡ None → ⊥) items
   each_found [] = tt
   each_found (x ∷ items) = (found_self x (is_eq (R x x)) (first_least mark R x items) (level_self x), more_found x items items (each_found items))
+
+  -- an item that is not order-equal is no least one
+  pub unlevel : (c d : C) (b : Bool) (later : Option C) → is_eq (R d c) ≡ b → least_of_both mark (cond b (Some d) None) later ≡ None → (is_eq (R d c) ≡ false) × (later ≡ None)
+  unlevel c d true None e n = absurd (cc)
+  unlevel c d true (Some x) e n = absurd (cc)
+  unlevel c d false later e n = (e, n)

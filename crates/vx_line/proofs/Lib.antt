@@ -1,9 +1,11 @@
 pub mod Above
-pub mod Changing
+pub mod ChangeLaws
 pub mod InOrder
+pub mod JoinLaws
 pub mod Judging
 pub mod Keeping
 pub mod LeastLaws
+pub mod LogarithmLaws
 pub mod MergedLaws
 pub mod Merging
 pub mod PlaceLaws

@@ -10,8 +10,8 @@ use Rattle.std.proofs.lemmas.Cmp.{tied_back}
 use Rattle.vx_spec.specs.Ascending.{IsAscending}
 use Rattle.vx_line.specs.Line.{IsFirstKept, IsLevel, IsMerged, is_in, join_by}
 use Rattle.vx_line.specs.Least.{first_least}
-use Rattle.vx_line.specs.Merges.{merge_by}
-use Rattle.vx_line.proofs.Changing.{unlevel}
+use Rattle.vx_line.specs.Steps.Merges.{merge_by}
+use Rattle.vx_line.proofs.LeastLaws.{unlevel}
 use Rattle.vx_line.proofs.InOrder.{merge_in_order}
 use Rattle.vx_line.proofs.Merging.{merge_means}
 use Rattle.vx_line.proofs.Unique.{unique}

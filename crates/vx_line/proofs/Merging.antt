@@ -6,7 +6,7 @@ use Rattle.std.specs.Ordering.{ordering_reverse, match_ordering}
 use Rattle.std.specs.Cmp.{IsTotalOrder}
 use Rattle.vx_spec.specs.Ascending.{IsAscending}
 use Rattle.vx_line.specs.Line.{IsPlace, is_in, emit}
-use Rattle.vx_line.specs.Merges.{merge_right, merge_behind, merge_by}
+use Rattle.vx_line.specs.Steps.Merges.{merge_right, merge_behind, merge_by}
 use Rattle.vx_line.proofs.PlaceLaws.{none_below}
 use Rattle.vx_line.proofs.Above.{above_lower}
 
@@ -14,15 +14,15 @@ same : (b t x : Bool) → (b ≡ false → t ≡ x) → t ≡ cond b t x
 same true t x f = refl
 same false t x f = f refl
 
-first_turns : (op : Bool → Bool → Bool) (p q s t b : Bool) → (b ≡ false → t ≡ q) → cond b (op s t) (op p q) ≡ op (cond b s p) t
+pub first_turns : (op : Bool → Bool → Bool) (p q s t b : Bool) → (b ≡ false → t ≡ q) → cond b (op s t) (op p q) ≡ op (cond b s p) t
 first_turns op p q s t true f = refl
 first_turns op p q s t false f = ap (op p) (sym (f refl))
 
-second_turns : (op : Bool → Bool → Bool) (p q s t b : Bool) → (b ≡ false → s ≡ p) → cond b (op s t) (op p q) ≡ op s (cond b t q)
+pub second_turns : (op : Bool → Bool → Bool) (p q s t b : Bool) → (b ≡ false → s ≡ p) → cond b (op s t) (op p q) ≡ op s (cond b t q)
 second_turns op p q s t true f = refl
 second_turns op p q s t false f = ap (λ w. op w q) (sym (f refl))
 
-both_turn : (op : Bool → Bool → Bool) (p q s t b b' : Bool) → b ≡ b' → cond b (op s t) (op p q) ≡ op (cond b s p) (cond b' t q)
+pub both_turn : (op : Bool → Bool → Bool) (p q s t b b' : Bool) → b ≡ b' → cond b (op s t) (op p q) ≡ op (cond b s p) (cond b' t q)
 both_turn op p q s t true true e = refl
 both_turn op p q s t true false e = cc
 both_turn op p q s t false true e = cc

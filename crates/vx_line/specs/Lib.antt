@@ -1,3 +1,5 @@
 pub mod Least
 pub mod Line
-pub mod Merges
+pub mod Logarithm
+pub mod Pieces
+pub mod Steps

@@ -1,1 +1,3 @@
+pub mod IdentLaws
 pub mod LetterLaws
+pub mod PlaceRows

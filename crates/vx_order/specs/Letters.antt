@@ -24,12 +24,12 @@ abbrev pub LettersCompareAs : ℕ → List Letter → List Letter → Ordering �
 LettersCompareAs end_rank a b answer = ComparesAs letter_cmp (endless (end_letter end_rank) a) (endless (end_letter end_rank) b) answer
 
 -- a letter in front of a list, but nothing where it is the end letter and the list is empty
-abbrev pub in_front : Bool → Letter → List Letter → List Letter
-in_front true letter [] = []
-in_front false letter [] = letter ∷ []
-in_front is_end letter (next ∷ letters) = letter ∷ next ∷ letters
+abbrev pub letter_before : Bool → Letter → List Letter → List Letter
+letter_before true letter [] = []
+letter_before false letter [] = letter ∷ []
+letter_before is_end letter (next ∷ letters) = letter ∷ next ∷ letters
 
 -- the list without the end letters at its end
-abbrev pub without_end : ℕ → List Letter → List Letter
-without_end end_rank [] = []
-without_end end_rank (letter ∷ letters) = in_front (is_eq (letter_cmp letter (end_letter end_rank))) letter (without_end end_rank letters)
+abbrev pub without_end_letters : ℕ → List Letter → List Letter
+without_end_letters end_rank [] = []
+without_end_letters end_rank (letter ∷ letters) = letter_before (is_eq (letter_cmp letter (end_letter end_rank))) letter (without_end_letters end_rank letters)

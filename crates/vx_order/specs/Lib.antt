@@ -1,1 +1,3 @@
+pub mod Idents
 pub mod Letters
+pub mod Places

@@ -17,11 +17,11 @@ pub struct Letter {
 /// A list of letters.
 pub type Letters = List<Letter>;
 
-/// The same letters once more.
+/// The same letters once more, in a list with room for no more.
 pub fn copy_letters(alloc: Global, letters: &Letters) -> Result<Letters, NoMemory>
     ensures { IfOk result (λ copied. copied ≡ letters.now) }
 {
-    let mut copied = Letters::new(alloc);
+    let mut copied = Letters::with_room(alloc, letters.len())?;
     for letter in letters.as_slice() {
         copied.push(copy_letter(alloc, letter)?)?;
     }

@@ -3,3 +3,4 @@ pub mod Domains
 pub mod Names
 pub mod Native
 pub mod Scheme
+pub mod Values

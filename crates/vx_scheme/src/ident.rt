@@ -21,9 +21,7 @@ pub type Idents = List<Ident>;
 pub fn copy_text(alloc: Global, text: &Text) -> Result<Text, NoMemory>
     ensures { IfOk result (λ copied. copied ≡ text.now) }
 {
-    let mut copied = Text::new(alloc);
-    copied.push_str(text.as_str())?;
-    Ok(copied)
+    Text::copy_of(alloc, text.as_str())
 }
 
 /// The same identifier once more.
@@ -40,7 +38,7 @@ pub fn copy_ident(alloc: Global, ident: &Ident) -> Result<Ident, NoMemory>
 pub fn copy_idents(alloc: Global, idents: &Idents) -> Result<Idents, NoMemory>
     ensures { IfOk result (λ copied. copied ≡ idents.now) }
 {
-    let mut copied = Idents::new(alloc);
+    let mut copied = Idents::with_room(alloc, idents.len())?;
     for ident in idents.as_slice() {
         copied.push(copy_ident(alloc, ident)?)?;
     }

@@ -31,6 +31,16 @@ impl<T> List<T> {
         }
     }
 
+    /// The empty list, with room for so many items.
+    pub fn with_room(alloc: Global, count: usize) -> Result<Self, NoMemory>
+        ensures { IfOk result (λ list. list ≡ []) }
+    {
+        match Vec::with_capacity(alloc, count) {
+            Ok(items) => Ok(List { items }),
+            Err(_) => Err(NoMemory),
+        }
+    }
+
     /// How many items there are.
     pub fn len(&self) -> usize
         ensures { result ≡ length self.now }
@@ -93,9 +103,7 @@ impl<T: Drop> List<T> {
     pub fn one(alloc: Global, item: T) -> Result<Self, NoMemory>
         ensures { IfOk result (λ list. list ≡ item ∷ []) }
     {
-        let mut list = List {
-            items: Vec::with_capacity(alloc, 1)?,
-        };
+        let mut list = List::with_room(alloc, 1)?;
         list.push(item)?;
         Ok(list)
     }

@@ -1,5 +1,6 @@
-ghost use Rattle.std.specs.Prelude.{◌≡◌};
-ghost use Rattle.vx_scheme.specs.Names.{text_of};
+ghost use Rattle.std.specs.Prelude.{◌≡◌, ◌≢◌, MatchOption};
+ghost use Rattle.vx_scheme.specs.Names.{scheme_named, text_of};
+ghost use Rattle.vx_scheme.specs.declared.name.SchemeName.{SchemeName};
 
 /// A version scheme.
 #[derive(Debug, Clone, Copy, PartialEq, Eq)]
@@ -36,6 +37,24 @@ impl SchemeName {
             SchemeName::Rpm => "rpm",
             SchemeName::Nuget => "nuget",
             SchemeName::Cargo => "cargo",
+        }
+    }
+    /// The scheme of this name, in lower case. `None` comes exactly where the text is none of the eight. It takes no
+    /// memory.
+    pub fn named(text: &str) -> Option<SchemeName>
+        ensures named { result ≡ scheme_named text.now }
+        ensures by_name { MatchOption result ((name : SchemeName) → text_of name ≢ text.now) (λ name. text_of name ≡ text.now) }
+    {
+        match text {
+            "npm" => Some(SchemeName::Npm),
+            "pypi" => Some(SchemeName::Pypi),
+            "maven" => Some(SchemeName::Maven),
+            "gem" => Some(SchemeName::Gem),
+            "deb" => Some(SchemeName::Deb),
+            "rpm" => Some(SchemeName::Rpm),
+            "nuget" => Some(SchemeName::Nuget),
+            "cargo" => Some(SchemeName::Cargo),
+            _ => None,
         }
     }
 }

@@ -70,7 +70,7 @@ pub trait Native: Scheme {
         ensures err { IfErr result (BackRefused (back domain spans.now)) };
 
     /// What is made and what is refused.
-    ghost ranges: { RangeLaws Self.order Self.IsVersion (InDomain Self.Scheme) IsRange In Makes Refuses };
+    ghost ranges: { RangeLaws Self.order Self.IsVersion (InDomain Self.Scheme) Offers IsRange In Makes Refuses };
 
     /// What is printed.
     ghost backs: { BackLaws Self.order Self.IsVersion (InDomain Self.Scheme) IsRange In back };

@@ -63,3 +63,18 @@ fn names(rt: HostRuntime) {
     assert_eq!(rt; BackFault::from(NoMemory), BackFault::NoMemory);
     assert_eq!(rt; StepFault::from(NoMemory), StepFault::NoMemory);
 }
+
+#[test]
+fn texts_with_room(rt: HostRuntime) -> Result<(), std::test::Fail> {
+    let mut text = Text::with_room(rt.alloc(), 16)?;
+    text.push_str("npm/")?;
+    text.push_front("vers:")?;
+    assert_eq!(rt; text.as_str(), "vers:npm/");
+    assert_eq!(rt; Text::copy_of(rt.alloc(), "npm")?.as_str(), "npm");
+    assert_eq!(rt; SchemeName::named("rpm"), Some(SchemeName::Rpm));
+    assert_eq!(rt; SchemeName::named("Rpm"), None);
+    let mut list = List::with_room(rt.alloc(), 2)?;
+    list.push(7u64)?;
+    assert_eq!(rt; list.len(), 1);
+    Ok(())
+}

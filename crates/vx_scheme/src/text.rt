@@ -1,9 +1,9 @@
-ghost use Rattle.std.specs.Prelude.{◌≡◌, [], ◌++◌, OnOk, OnErr, length, take, ◌≤◌, IsUtf8, string_bytes, IsTrue, ◌↔◌};
+ghost use Rattle.std.specs.Prelude.{◌≡◌, [], ◌++◌, OnOk, OnErr, IfOk, length, take, ◌≤◌, IsUtf8, string_bytes, IsTrue, ◌↔◌};
 ghost use Rattle.vx_spec.specs.Numerals.{numeral_text};
 
 use crate::memory::NoMemory;
-use std::alloc::{AllocError, Global};
-use std::fmt::Write;
+use itoa::Buffer;
+use std::alloc::Global;
 use std::marker::Model;
 
 /// A text in UTF-8, which contracts see as its bytes.
@@ -35,6 +35,25 @@ impl Text {
         ensures { result ≡ string_bytes inner }
     {
         Text { inner }
+    }
+
+    /// The empty text, with room for so many bytes.
+    pub fn with_room(alloc: Global, len: usize) -> Result<Text, NoMemory>
+        ensures { IfOk result (λ text. text ≡ []) }
+    {
+        match String::with_capacity(alloc, len) {
+            Ok(inner) => Ok(Text { inner }),
+            Err(_) => Err(NoMemory),
+        }
+    }
+
+    /// A copy of a piece, with room for no more.
+    pub fn copy_of(alloc: Global, piece: &str) -> Result<Text, NoMemory>
+        ensures { IfOk result (λ text. text ≡ piece.now) }
+    {
+        let mut text = Text::with_room(alloc, piece.len())?;
+        text.push_str(piece)?;
+        Ok(text)
     }
 
     /// Its length in bytes.
@@ -69,16 +88,24 @@ impl Text {
         }
     }
 
+    /// Puts a piece in front. A refused call leaves the text as it was.
+    pub fn push_front(&mut self, piece: &str) -> Result<(), NoMemory>
+        ensures ok { OnOk result (self.new ≡ piece.now ++ self.old) }
+        ensures err { OnErr result (self.new ≡ self.old) }
+    {
+        match self.inner.insert_str(0, piece) {
+            Ok(()) => Ok(()),
+            Err(_) => Err(NoMemory),
+        }
+    }
+
     /// Appends the decimal numeral, without leading zeros. A refused push leaves the text as it was.
     pub fn push_number(&mut self, number: u128) -> Result<(), NoMemory>
         ensures ok { OnOk result (self.new ≡ self.old ++ numeral_text number) }
         ensures err { OnErr result (self.new ≡ self.old) }
     {
-        let mut digits = String::new(self.alloc());
-        match print_number(&mut digits, number) {
-            Ok(()) => self.push_str(digits.as_str()),
-            Err(_) => Err(NoMemory),
-        }
+        let mut digits = Buffer::new();
+        self.push_str(digits.format(number))
     }
 
     /// The allocator that the text was made with.
@@ -95,10 +122,4 @@ impl Text {
         let _whole = self.inner.as_str();
         self.inner.truncate(len);
     }
-}
-
-fn print_number(out: &mut String, number: u128) -> Result<(), AllocError>
-    ensures { OnOk result (string_bytes out.new ≡ string_bytes out.old ++ numeral_text number) }
-{
-    write!(out, "{number}")
 }

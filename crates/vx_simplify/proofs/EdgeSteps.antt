@@ -1,16 +1,12 @@
 -- The cuts of a list, written one constraint after another.
-use Rattle.std.proofs.Common.{◌≡◌, ◌≢◌, ◌<◌, ℕ, ◌+◌, Bool, true, false, ◌&&◌, ◌||◌, Option, MatchOption, List, [], ◌∷◌, ◌++◌, length, get_or, drop, refl, ap, sym, ◌∙◌, append_assoc}
-use Rattle.std.specs.Option.{unwrap_or}
-use Rattle.std.proofs.lemmas.List.{drop_more}
+use Rattle.std.proofs.Common.{◌≡◌, ◌≢◌, ℕ, ◌+◌, Bool, true, false, ◌&&◌, ◌||◌, List, [], ◌∷◌, ◌++◌, refl, ap, ◌∙◌}
 use Rattle.std.proofs.lemmas.Bool.{or_parts}
 use Rattle.vx_scheme.specs.declared.span.Cut.{Cut}
 use Rattle.vx_scheme.specs.Cuts.{spans_of}
 use Rattle.vx_line.specs.Line.{emit}
 use Rattle.vx_vers.specs.declared.constraints.Constraint.{Constraint}
 use Rattle.vx_vers.specs.Meaning.{Kind, point, hole, opening, closing, kind, opens_next, closes_first, is_hole, closes_here}
-use Rattle.vx_simplify.specs.Behind.{closes_from_last}
 use Rattle.vx_simplify.specs.Edges.{cuts_after, cut_at, is_piece_in, edges_at, edges, all_holes, starts_in, edges_of, spans_of_list}
-use Rattle.vx_simplify.proofs.BehindLaws.{popped}
 
 pub emit-append : {C : Type 0} → (x y : Bool) (c : C) (first rest : List C) → emit x y c (first ++ rest) ≡ emit x y c first ++ rest
 emit-append true true c first rest = refl
@@ -50,33 +46,3 @@ module _ {V : Type 0} where
   some_span list = no_span (starts_in list) (edges_of list) (λ s.
       let parts = or_parts (closes_first kind list false) (all_holes list) s in
       rw parts.1 (some_edge 1 list parts.1 parts.0))
-
-  -- one constraint more
-  module _ (items : List (Constraint V)) (i : ℕ) (c : Constraint V) (at : i < length items) (is : c ≡ get_or items i c) where
-    split : drop i items ≡ c ∷ drop (i + 1) items
-    split = drop_more items i c at ∙ ap (λ d. d ∷ drop (i + 1) items) (sym is)
-
-    flag_taken : (outcome : Option Bool) (flags flags' : List Bool) → MatchOption outcome ((flags ≡ []) × (flags' ≡ [])) (λ last. flags ≡ flags' ++ last ∷ []) → flags ≡ closes_from_last kind (drop i items) false
-        → (flags' ≡ closes_from_last kind (drop (i + 1) items) false) × (unwrap_or outcome false ≡ closes_first kind (drop (i + 1) items) false)
-    flag_taken outcome flags flags' taken e = popped outcome flags flags' _ _ taken (e ∙ ap (λ w. closes_from_last kind w false) split)
-
-    pub next_piece : (holes p' closes next : Bool) (outcome : Option Bool) (flags flags' : List Bool) → MatchOption outcome ((flags ≡ []) × (flags' ≡ [])) (λ last. flags ≡ flags' ++ last ∷ []) → flags ≡ closes_from_last kind (drop i items) false
-        → closes ≡ unwrap_or outcome false → next ≡ ((p' || closes) || holes) → next ≡ is_piece_in holes p' (drop (i + 1) items)
-    next_piece holes p' closes next outcome flags flags' taken e by is_next = is_next ∙ ap (λ b. (p' || b) || holes) (by ∙ (flag_taken outcome flags flags' taken e).1)
-
-    pub next_flags : (outcome : Option Bool) (flags flags' : List Bool) → MatchOption outcome ((flags ≡ []) × (flags' ≡ [])) (λ last. flags ≡ flags' ++ last ∷ []) → flags ≡ closes_from_last kind (drop i items) false
-        → flags' ≡ closes_from_last kind (drop (i + 1) items) false
-    next_flags outcome flags flags' taken e = (flag_taken outcome flags flags' taken e).0
-
-    pub next_edges : (holes p p' inside next : Bool) (cuts cuts' whole : List (Cut V)) → p' ≡ opens_next p (kind c) → inside ≡ is_piece_in holes p (drop i items) → next ≡ is_piece_in holes p' (drop (i + 1) items)
-        → cuts' ≡ cuts ++ edges_at (kind c) inside next (i + 1) c [] → cuts ++ edges holes p (i + 1) (drop i items) ≡ whole
-        → cuts' ++ edges holes p' (i + 1 + 1) (drop (i + 1) items) ≡ whole
-    next_edges holes p p' inside next cuts cuts' whole opens e f more before =
-        let rest = edges holes p' (i + 1 + 1) (drop (i + 1) items) in
-        let here : edges holes p (i + 1) (drop i items) ≡ edges_at (kind c) inside next (i + 1) c rest =
-        ap (edges holes p (i + 1)) split
-        ∙ sym (λ j. edges_at (kind c) ((e ∙ ap (is_piece_in holes p) split) j) ((f ∙ ap (λ q. is_piece_in holes q (drop (i + 1) items)) opens) j) (i + 1) c (edges holes (opens j) (i + 1 + 1) (drop (i + 1) items))) in
-        ap (λ w. w ++ rest) more
-        ∙ append_assoc cuts (edges_at (kind c) inside next (i + 1) c []) rest
-        ∙ ap (λ w. cuts ++ w) (sym (edges_at-append (kind c) inside next (i + 1) c rest) ∙ sym here)
-        ∙ before

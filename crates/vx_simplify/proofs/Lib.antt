@@ -1,10 +1,10 @@
-pub mod BehindLaws
 pub mod CleanLaws
 pub mod Dropping
 pub mod EdgeSteps
 pub mod EdgeLaws
 pub mod EdgeOrder
 pub mod Keeping
+pub mod Passing
 pub mod KeptLaws
 pub mod ListedLaws
 pub mod ListedOrder

@@ -1,6 +1,7 @@
--- The cuts of a sorted list of constraints at which its meaning changes. A constraint of a range has one cut: before
--- its version for `>=` and `<`, after it for `>` and `<=`. `=` and `!=` have two, before and after their version. A
--- cut stays where the piece below it is in and the piece above it is not, or the other way round.
+-- VERS, "Checking if a version is contained within a range", as a set: the cuts of a sorted list of constraints at
+-- which its meaning changes. A constraint of a range has one cut: before its version for `>=` and `<`, after it for `>`
+-- and `<=`. `=` and `!=` have two, before and after their version. A cut stays where the piece below it is in and the
+-- piece above it is not, or the other way round.
 use Rattle.std.specs.Prelude.{ℕ, ◌+◌, Bool, true, false, ◌||◌, List, [], ◌∷◌}
 use Rattle.std.specs.List.{list_all}
 use Rattle.vx_scheme.specs.declared.span.Cut.{Cut}

@@ -1,4 +1,3 @@
-pub mod Behind
 pub mod Edges
 pub mod Listed
 pub mod Simplified

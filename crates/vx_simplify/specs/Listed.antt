@@ -1,8 +1,8 @@
--- The list of constraints of spans that are in order and apart. A span that goes from before to after one order class
--- gives `=`, with the version of its lower cut. Two spans whose gap goes from before to after one order class give
--- `!=`, with the version of the upper cut of the first. Every other cut gives a constraint of its own, with its
--- version: a lower cut `>=` where it stands before that version, and `>` behind it; an upper cut `<` before it, and
--- `<=` behind it. So the span of every version gives the empty list.
+-- VERS, "<version-constraint>": the list of constraints of spans that are in order and apart. A span that goes from
+-- before to after one order class gives `=`, with the version of its lower cut. Two spans whose gap goes from before to
+-- after one order class give `!=`, with the version of the upper cut of the first. Every other cut gives a constraint
+-- of its own, with its version: a lower cut `>=` where it stands before that version, and `>` behind it; an upper cut
+-- `<` before it, and `<=` behind it. So the span of every version gives the empty list.
 use Rattle.std.specs.Prelude.{Bool, true, false, not, ◌&&◌, cond, List, [], ◌∷◌}
 use Rattle.std.specs.declared.cmp.Ordering.{Ordering}
 use Rattle.std.specs.Ordering.{is_eq}

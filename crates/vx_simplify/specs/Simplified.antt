@@ -1,7 +1,8 @@
--- A simplified list: one test for each constraint, by the range constraints (`<`, `<=`, `>`, `>=`) of the list as it
--- was given. An `=` is dropped where the last range constraint before it is `>` or `>=`, or the first one behind it is
--- `<` or `<=`. A `>` or `>=` is dropped where the last one before it is `>` or `>=`. A `<` or `<=` is dropped where the
--- first one behind it is `<` or `<=`. All others stay, each `!=` among them.
+-- VERS, "Version constraints simplification": a simplified list, one test for each constraint, by the range constraints
+-- (`<`, `<=`, `>`, `>=`) of the list as it was given. An `=` is dropped where the last range constraint before it is
+-- `>` or `>=`, or the first one behind it is `<` or `<=`. A `>` or `>=` is dropped where the last one before it is `>`
+-- or `>=`. A `<` or `<=` is dropped where the first one behind it is `<` or `<=`. All others stay, each `!=` among
+-- them.
 use Rattle.std.specs.Prelude.{Bool, false, ◌||◌, cond, List, [], ◌∷◌, ◌++◌}
 use Rattle.vx_vers.specs.Meaning.{Kind, point, hole, opening, closing, opens_last, closes_first}
 

@@ -1,7 +1,8 @@
 //! Lists of constraints, simplified, and sets of versions, each made of the other.
 #![tactic(auto)]
 
-mod behind;
+mod closing;
+mod copying;
 mod laws;
 mod listing;
 mod simplifying;
@@ -12,5 +13,5 @@ pub use laws::{
     same_stays_simple,
 };
 pub use listing::{FromSet, from_set};
-pub use simplifying::simplify;
-pub use spanning::to_set;
+pub use simplifying::{into_simple, simplify};
+pub use spanning::{into_set, to_set};

@@ -68,7 +68,7 @@ fn list_cuts<S: Scheme>(
     requires { IsAscending (cut_cmp S.order) cuts }
     ensures { IfOk result (λ list. list ≡ listed S.order starts cuts) }
 {
-    let mut list = Constraints::new(alloc);
+    let mut list = Constraints::with_room(alloc, cuts.len())?;
     let mut walk = Walk {
         inside: starts,
         waiting: None,

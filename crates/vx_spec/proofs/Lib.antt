@@ -1,3 +1,5 @@
+pub mod EachLaws
+pub mod EndLaws
 pub mod FirstLaws
 pub mod MarkLaws
 pub mod NumeralLaws

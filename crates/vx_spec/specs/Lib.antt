@@ -1,4 +1,5 @@
 pub mod Ascending
+pub mod Each
 pub mod Firsts
 pub mod Marks
 pub mod Numerals

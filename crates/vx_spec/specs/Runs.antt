@@ -1,6 +1,6 @@
 -- Maximal runs of bytes.
-use Rattle.std.specs.Prelude.{◌==◌, ◌||◌, not, ℕ, Bool, false, List, [], ◌∷◌, take, drop}
-use Rattle.std.specs.List.{prefix_len}
+use Rattle.std.specs.Prelude.{◌==◌, ◌||◌, ◌-◌, not, ℕ, Bool, false, List, [], ◌∷◌, take, drop, length}
+use Rattle.std.specs.List.{prefix_len, suffix_len}
 
 -- a space or a tab
 abbrev pub is_blank : ℕ → Bool
@@ -22,3 +22,11 @@ run test text = take (prefix_len test text) text
 -- what stands behind it
 abbrev pub past : (ℕ → Bool) → List ℕ → List ℕ
 past test text = drop (prefix_len test text) text
+
+-- the text without the bytes that pass at its end
+abbrev pub without_end : (ℕ → Bool) → List ℕ → List ℕ
+without_end test text = take (length text - suffix_len test text) text
+
+-- the text without the blanks at its ends
+abbrev pub trimmed : List ℕ → List ℕ
+trimmed text = without_end is_blank (past is_blank text)

@@ -6,10 +6,7 @@ use Rattle.std.proofs.lemmas.Bool.Decides.{nat_tests}
 use Rattle.std.proofs.lemmas.List.Splits.{slice_split_none, slice_split_at, length-slice_split}
 use Rattle.std.proofs.lemmas.List.Elements.{All-from_recursion}
 use Rattle.vx_spec.specs.Marks.{IsCut, Lacks, marked}
-
-pub lacks_append : (c : ℕ) (a b : List ℕ) → Lacks c a → Lacks c b → Lacks c (a ++ b)
-lacks_append c [] b p q = q
-lacks_append c (x ∷ a) b p q = (p.0, lacks_append c a b p.1 q)
+use Rattle.vx_spec.proofs.EndLaws.{lacks_append}
 
 -- a joined text lacks what its parts and its mark are not
 pub join_lacks : (mark c : ℕ) (xs : List (List ℕ)) → mark ≢ c → AllByRecursion (Lacks c) xs → Lacks c (join_with_byte mark xs)

@@ -1,3 +1,4 @@
 pub mod EscapeLaws
 pub mod Joins
+pub mod PastLaws
 pub mod PieceLaws

@@ -1,4 +1,5 @@
 pub mod Escapes
 pub mod Folding
 pub mod Numeral
+pub mod Past
 pub mod Pieces

@@ -4,6 +4,7 @@ ghost use Rattle.vx_spec.specs.Runs.{is_blank};
 ghost use Rattle.vx_text.specs.Pieces.{ArePieces, piece_of, places};
 
 use crate::marks::cut;
+use crate::runs::{Blanks, past_run, without_end};
 use std::alloc::Global;
 use vx_scheme::{List, NoMemory};
 
@@ -42,36 +43,13 @@ fn piece_in(at: usize, part: &[u8]) -> Piece
     requires { at + length part.now < 2 ^ 64 }
     ensures { result ≡ piece_of at part.now }
 {
-    let start = leading(part);
+    let start = part.len() - past_run::<Blanks>(part).len();
     if start == part.len() {
         Piece { start: at, end: at }
     } else {
         Piece {
             start: at + start,
-            end: at + (part.len() - trailing(part)),
+            end: at + without_end::<Blanks>(part).len(),
         }
     }
-}
-
-fn leading(text: &[u8]) -> usize
-    ensures count { result ≡ prefix_len is_blank text.now }
-    ensures within { result ≤ length text.now }
-{
-    text.iter().take_while(|byte| is_blank(**byte)).count()
-}
-
-fn trailing(text: &[u8]) -> usize
-    ensures count { result ≡ suffix_len is_blank text.now }
-    ensures within { result ≤ length text.now }
-{
-    text.iter()
-        .rev()
-        .take_while(|byte| is_blank(**byte))
-        .count()
-}
-
-fn is_blank(byte: u8) -> bool
-    ensures { result ≡ is_blank byte }
-{
-    byte == b' ' || byte == b'\t'
 }

@@ -1,5 +1,6 @@
 ghost use Rattle.std.specs.Prelude.{◌≡◌, ◌++◌, ◌<◌, ◌↔◌, IfOk, IfErr, IsTrue, OnOk, OnErr, IfSome, IfNone, length};
-ghost use Rattle.vx_text.specs.Escapes.{EscapesAreUndone, IsBroken, IsFirstBroken, IsFollowed, IsUnescapedAs, IsWhole, escaped};
+ghost use Rattle.std.specs.List.{list_all};
+ghost use Rattle.vx_text.specs.Escapes.{is_left, EscapesAreUndone, IsBroken, IsFirstBroken, IsFollowed, IsUnescapedAs, IsWhole, escaped};
 
 use percent_encoding::{
     AsciiSet, DecodeError, NON_ALPHANUMERIC, ascii_set, percent_decode_str, utf8_percent_encode,
@@ -51,6 +52,21 @@ impl From<AllocError> for EscapeFault {
     fn from(_error: AllocError) -> Self {
         EscapeFault::NoMemory
     }
+}
+
+/// Whether each byte is an ASCII letter, a digit or one of `. - _ ~ :`, so that the text stands for itself. It takes no
+/// memory.
+pub fn is_left(text: &[u8]) -> bool
+    ensures { result ≡ list_all is_left text.now }
+{
+    text.iter().all(|byte| {
+        byte.is_ascii_alphanumeric()
+            || *byte == b'.'
+            || *byte == b'-'
+            || *byte == b'_'
+            || *byte == b'~'
+            || *byte == b':'
+    })
 }
 
 /// Appends the text with every byte but ASCII letters, digits and `. - _ ~ :` escaped. A refused call leaves `out` as

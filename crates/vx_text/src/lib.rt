@@ -6,12 +6,18 @@ mod escapes;
 mod folding;
 mod marks;
 mod numerals;
+mod past;
+mod runs;
 
 pub use cutting::{Piece, Pieces, pieces};
-pub use escapes::{EscapeFault, escape, escapes_are_undone, first_broken, round_trip, unescape};
+pub use escapes::{
+    EscapeFault, escape, escapes_are_undone, first_broken, is_left, round_trip, unescape,
+};
 pub use folding::{lower, same_folded};
-pub use marks::{cut, parts};
+pub use marks::{cut, cut_bytes, first_cut, last_cut, parts};
 pub use numerals::{NumeralFault, is_numeral, numeral};
+pub use past::{first_past, is_past, number_of, numeral_of};
+pub use runs::{Blanks, ByteClass, Digits, Solids, cut_run, past_run, trimmed, without_end};
 
 #[cfg(test)]
 mod tests;

@@ -2,7 +2,7 @@ use super::*;
 use std::alloc::{AllocError, Global};
 use std::fmt::Write;
 use std::test::Fail;
-use vx_scheme::Text;
+use vx_scheme::{Text, VersionFault};
 
 const KEPT: &str = "ABCDEFGHIJKLMNOPQRSTUVWXYZabcdefghijklmnopqrstuvwxyz0123456789.-_~:";
 
@@ -114,4 +114,43 @@ fn refuses_escapes(rt: HostRuntime) -> Result<(), Fail> {
         }
     }
     Ok(())
+}
+
+#[test]
+fn bytes(rt: HostRuntime) {
+    assert_eq!(rt;
+        cut_bytes(b"a=b=c", b'='),
+        (b"a".as_slice(), Some(b"b=c".as_slice()))
+    );
+    assert_eq!(rt;
+        last_cut(b"a=b=c", b'='),
+        (b"a=b".as_slice(), Some(b"c".as_slice()))
+    );
+    assert_eq!(rt; first_cut("1:2", ':'), (Some("1"), "2"));
+    assert_eq!(rt;
+        cut_run::<Digits>(b"12a3"),
+        (b"12".as_slice(), b"a3".as_slice())
+    );
+    assert_eq!(rt; trimmed(b" \ta b "), b"a b".as_slice());
+    assert_eq!(rt; past_run::<Solids>(b"ab c"), b" c".as_slice());
+    assert!(rt; is_left(b"1.0-a_b~c:d"));
+    assert!(rt; !is_left(b"1+2"));
+}
+
+#[test]
+fn numbers(rt: HostRuntime) {
+    assert_eq!(rt; number_of(b""), Ok(0));
+    assert_eq!(rt; numeral_of("007"), Ok(7));
+    assert_eq!(rt;
+        numeral_of("340282366920938463463374607431768211456"),
+        Err(VersionFault::Numeral)
+    );
+    assert_eq!(rt;
+        first_past(b"a1.340282366920938463463374607431768211456", 10),
+        Some(13)
+    );
+    assert_eq!(rt;
+        first_past(b"a1.340282366920938463463374607431768211455", 10),
+        None
+    );
 }

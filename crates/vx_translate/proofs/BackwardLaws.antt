@@ -1,12 +1,13 @@
 -- A translation back holds the versions of its list, and where it is refused.
-use Rattle.std.proofs.Common.{◌≡◌, ◌≢◌, ◌+◌, ◌++◌, ℕ, Bool, List, [], ◌∷◌, true, false, refl, sym, ◌∙◌, subst, inl, inr, Result, Ok, Err}
+use Rattle.std.proofs.Common.{◌≡◌, ◌≢◌, ◌+◌, ◌++◌, ℕ, Bool, List, [], ◌∷◌, true, false, refl, sym, ◌∙◌, subst, inl, inr, Ok, Err}
 use Rattle.std.specs.List.{AllByRecursion}
-use Rattle.std.specs.declared.cmp.Ordering.{Ordering}
 use Rattle.std.proofs.lemmas.Bool.{cases_Bool}
 use Rattle.vx_scheme.specs.declared.back_fault.BackFault.{BackFault}
 use Rattle.vx_scheme.specs.declared.back_fault.BackFault.TheVariants as fault_of
 use Rattle.vx_scheme.specs.declared.domain.Domain.{Domain}
-use Rattle.vx_scheme.specs.declared.name.SchemeName.{SchemeName}
+use Rattle.vx_scheme.specs.declared.scheme.Scheme.{Ghosts as Scheme}
+use Rattle.vx_scheme.specs.declared.native.Native.{Ghosts as Language}
+use Rattle.vx_scheme.specs.Domains.{InDomain}
 use Rattle.vx_scheme.specs.declared.span.Cut.{Cut}
 use Rattle.vx_scheme.specs.declared.span.Span.{Span}
 use Rattle.vx_scheme.specs.Cuts.{IsInOrder, in_spans, spans_of}
@@ -18,7 +19,7 @@ use Rattle.vx_simplify.specs.Edges.{is_piece_in, edges_at, edges, all_holes, sta
 use Rattle.vx_simplify.specs.Simplified.{is_dropped, stays_behind, simplified}
 use Rattle.vx_translate.specs.Backward.{KeepsMembers, HasNoText}
 use Rattle.vx_translate.specs.Refusals.{refusal_of_back}
-use Rattle.vx_translate.specs.VersTexts.{IsReadAs}
+use Rattle.vx_translate.specs.VersTexts.{SpellsVers}
 use Rattle.vx_translate.specs.declared.refusal.Refusal.{Refusal}
 use Rattle.vx_translate.specs.declared.refusal.Refusal.TheVariants as refusal_of
 use Rattle.vx_translate.specs.declared.refusal.BackKind.{BackKind}
@@ -73,12 +74,13 @@ module _ {V : Type 0} (P : V → Type 0) where
       spans_all (starts_in simple) (edges_of simple) (edges_all (all_holes simple) false 1 simple (stay_all kind OfConstraint [] list all))
 
 -- The printed text holds the versions of the domain that the list holds.
-module _ {V : Type 0} {name : SchemeName} {order : V → V → Ordering} {Spells : List ℕ → V → Type 0} {IsWithin IsVersion : V → Type 0} {InDomain : Domain → V → Type 0} {IsRange : List ℕ → Type 0} {In : List ℕ → V → Type 0} {back : Domain → List (Span V) → Result (List ℕ) BackFault} (laws : BackLaws order IsVersion InDomain IsRange In back) (spelled_version : (t : List ℕ) (v : V) → Spells t v → IsVersion v) where
-  pub keeps_members : (domain : Domain) (text out : List ℕ) (list : List (Constraint V)) (spans : List (Span V)) → IsReadAs name order Spells IsWithin text list → spans ≡ spans_of_list (simplified kind list)
-      → spans ≢ [] → IsInOrder order spans → ((v : V) → in_spans order spans v ≡ meaning order v list) → back domain spans ≡ Ok out
-      → KeepsMembers name order Spells IsWithin IsVersion (InDomain domain) IsRange In text out
+module _ {S V : Type 0} (scheme : Scheme S V) (language : Language S V)
+    (laws : BackLaws scheme.order scheme.IsVersion (InDomain scheme) language.IsRange language.In language.back) (spelled_version : (t : List ℕ) (v : V) → scheme.Spells t v → scheme.IsVersion v) where
+  pub keeps_members : (domain : Domain) (text out : List ℕ) (list : List (Constraint V)) (spans : List (Span V)) → SpellsVers scheme text list → spans ≡ spans_of_list (simplified kind list)
+      → spans ≢ [] → IsInOrder scheme.order spans → ((v : V) → in_spans scheme.order spans v ≡ meaning scheme.order v list) → language.back domain spans ≡ Ok out
+      → KeepsMembers scheme language domain text out
   keeps_members domain text out list spans read is some in_order means printed =
-      let each : EachVersion IsVersion spans = subst (EachVersion IsVersion) (sym is) (simple_all IsVersion list (read_versions name order Spells IsWithin text IsVersion spelled_version list read)) in
+      let each : EachVersion scheme.IsVersion spans = subst (EachVersion scheme.IsVersion) (sym is) (simple_all scheme.IsVersion list (read_versions scheme text spelled_version list read)) in
       let prints = laws.backward domain spans out (record { some = some; in_order = in_order }) each printed in
       record {
         list = list;
@@ -90,12 +92,12 @@ module _ {V : Type 0} {name : SchemeName} {order : V → V → Ordering} {Spells
       }
 
 -- What holds where a `NoNative` or `NotBuilt` comes holds where the spans have no text.
-module _ {V : Type 0} (name : SchemeName) (order : V → V → Ordering) (Spells : List ℕ → V → Type 0) (IsWithin : V → Type 0) (back : List (Span V) → Result (List ℕ) BackFault) (text : List ℕ) where
+module _ {S V : Type 0} (scheme : Scheme S V) (language : Language S V) (domain : Domain) (text : List ℕ) where
   abbrev None : Refusal → Type 0
-  None refusal = HasNoText name order Spells IsWithin back text refusal
+  None refusal = HasNoText scheme language domain text refusal
 
   no_text_of : (P : Refusal → Type 0) → ((k : BackKind) (n : ℕ) → None (refusal_of.NoNative k n) → P (refusal_of.NoNative k n)) → (None refusal_of.NotBuilt → P refusal_of.NotBuilt)
-      → (list : List (Constraint V)) → IsReadAs name order Spells IsWithin text list → (fault : BackFault) → back (spans_of_list (simplified kind list)) ≡ Err fault
+      → (list : List (Constraint V)) → SpellsVers scheme text list → (fault : BackFault) → language.back domain (spans_of_list (simplified kind list)) ≡ Err fault
       → refusal_of_back fault ≢ refusal_of.NoMemory → P (refusal_of_back fault)
   no_text_of P gives other list read (fault_of.NotOneInterval k) e some = gives back_kind.NotOneInterval k (record { list = list; read = read; fault = fault_of.NotOneInterval k; refused = e; called = refl })
   no_text_of P gives other list read (fault_of.PointHole k) e some = gives back_kind.PointHole k (record { list = list; read = read; fault = fault_of.PointHole k; refused = e; called = refl })

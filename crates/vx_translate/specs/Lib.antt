@@ -1,11 +1,9 @@
 pub mod Backward
-pub mod Canon
 pub mod Canonical
 pub mod Domains
 pub mod Forward
-pub mod FromVers
-pub mod Has
 pub mod Having
+pub mod Names
 pub mod Refusals
-pub mod ToVers
+pub mod Table
 pub mod VersTexts

@@ -1,8 +1,8 @@
--- VERS texts that are read, and those that are refused: over the members of any scheme, and by the scheme that the head
--- names.
+-- VERS texts that are read, and those that are refused, over any scheme; and what holds of the scheme that the head of a
+-- text names.
 use Rattle.std.specs.Prelude.{◌≡◌, ◌≢◌, ◌⊎◌, ℕ, List}
-use Rattle.std.specs.declared.cmp.Ordering.{Ordering}
 use Rattle.vx_scheme.specs.declared.name.SchemeName.{SchemeName}
+use Rattle.vx_scheme.specs.declared.scheme.Scheme.{Ghosts as Scheme}
 use Rattle.vx_vers.specs.declared.constraints.Constraint.{Constraint}
 use Rattle.vx_vers.specs.declared.fault.VersFault.{VersFault}
 use Rattle.vx_vers.specs.Grammar.{SpellsList, EachWithin}
@@ -14,14 +14,14 @@ use Rattle.vx_translate.specs.declared.refusal.Refusal.TheVariants as refusal_of
 use Rattle.vx_translate.specs.declared.refusal.VersPart.TheVariants.{Head}
 
 -- The text spells the list, each version within the limits of the scheme.
-pub record IsReadAs {V : Type 0} (name : SchemeName) (order : V → V → Ordering) (Spells : List ℕ → V → Type 0) (IsWithin : V → Type 0) (text : List ℕ) (list : List (Constraint V)) : Type 0 where
-  pub spelled : SpellsList name order Spells text list
-  pub within : EachWithin IsWithin list
+pub record SpellsVers {S V : Type 0} (scheme : Scheme S V) (text : List ℕ) (list : List (Constraint V)) : Type 0 where
+  pub spelled : SpellsList scheme.name scheme.order scheme.Spells text list
+  pub within : EachWithin scheme.IsWithin list
 
 -- The text spells no list within the limits, and its first fault is called by this refusal.
-pub record IsBadVers {V : Type 0} (name : SchemeName) (order : V → V → Ordering) (Spells : List ℕ → V → Type 0) (IsWithin : V → Type 0) (text : List ℕ) (refusal : Refusal) : Type 0 where
+pub record IsBadVers {S V : Type 0} (scheme : Scheme S V) (text : List ℕ) (refusal : Refusal) : Type 0 where
   pub fault : VersFault
-  pub first : Refuses name order Spells IsWithin text fault
+  pub first : Refuses scheme.name scheme.order scheme.Spells scheme.IsWithin text fault
   pub called : refusal ≡ refusal_of_vers fault
 
 -- the head of the text names the scheme for which the fact holds

@@ -1,26 +1,21 @@
 ghost use Rattle.std.specs.Prelude.{◌≡◌, IfOk, IfErr};
 ghost use Rattle.vx_vers.specs.Heads.{HeadIs, NoHead};
-ghost use Rattle.vx_translate.specs.Canon.{IsCanon, IsSameList, IsCanonRefused};
-ghost use Rattle.vx_translate.specs.FromVers.{IsFromVers, IsSameSet, IsFromVersRefused};
-ghost use Rattle.vx_translate.specs.Has.{IsHas, IsHasRefused};
+ghost use Rattle.vx_translate.specs.Names.{IsCanon, IsSameList, IsCanonRefused, IsFromVers, IsSameSet, IsFromVersRefused, IsHas, IsHasRefused};
 ghost use Rattle.vx_translate.specs.declared.refusal.Refusal.TheVariants as refusal_of;
 ghost use Rattle.vx_translate.specs.declared.refusal.VersPart.TheVariants.{Head};
 
 use crate::backward::translate_back;
 use crate::canonical::canonical;
-use crate::domains::default_domain;
+use crate::domains::chosen_domain;
 use crate::having::has_version;
 use crate::refusal::{Refusal, VersPart};
-use deb_scheme::Deb;
-use npm_range::NpmRange;
-use npm_scheme::Npm;
-use relation_ranges::DebRange;
+use crate::table::of_scheme;
 use std::alloc::Global;
 use vx_scheme::{Domain, SchemeName, Text};
 use vx_vers::head;
 
 /// The scheme that the head of a VERS text names.
-fn named(text: &str) -> Result<SchemeName, Refusal>
+fn head_scheme(text: &str) -> Result<SchemeName, Refusal>
     ensures ok { IfOk result (HeadIs text.now) }
     ensures err { IfErr result (λ refusal. NoHead text.now × (refusal ≡ refusal_of.BadVers Head 0)) }
 {
@@ -39,24 +34,13 @@ pub fn from_vers(alloc: Global, domain: Option<Domain>, text: &str) -> Result<Te
     ensures members { IfOk result (IsSameSet domain text.now) }
     ensures err { IfErr result (IsFromVersRefused domain text.now) }
 {
-    let name = named(text)?;
-    let domain = domain.unwrap_or(default_domain(name));
-    match name {
-        SchemeName::Npm => {
-            let out = translate_back::<NpmRange>(alloc, domain, text)?;
-            Ok(out)
-        }
-        SchemeName::Deb => {
-            let out = translate_back::<DebRange>(alloc, domain, text)?;
-            Ok(out)
-        }
-        SchemeName::Pypi
-        | SchemeName::Maven
-        | SchemeName::Gem
-        | SchemeName::Rpm
-        | SchemeName::Nuget
-        | SchemeName::Cargo => Err(Refusal::NotBuilt),
-    }
+    let name = head_scheme(text)?;
+    let domain = chosen_domain(domain, name);
+    of_scheme!(
+        name,
+        translate_back(alloc, domain, text),
+        Err(Refusal::NotBuilt)
+    )
 }
 
 /// The canonical text of a VERS text: its simplified list, printed. `BadVers` of the head comes first, exactly where it
@@ -66,23 +50,8 @@ pub fn canon(alloc: Global, text: &str) -> Result<Text, Refusal>
     ensures same { IfOk result (IsSameList text.now) }
     ensures err { IfErr result (IsCanonRefused text.now) }
 {
-    let name = named(text)?;
-    match name {
-        SchemeName::Npm => {
-            let out = canonical::<Npm>(alloc, text)?;
-            Ok(out)
-        }
-        SchemeName::Deb => {
-            let out = canonical::<Deb>(alloc, text)?;
-            Ok(out)
-        }
-        SchemeName::Pypi
-        | SchemeName::Maven
-        | SchemeName::Gem
-        | SchemeName::Rpm
-        | SchemeName::Nuget
-        | SchemeName::Cargo => Err(Refusal::NotBuilt),
-    }
+    let name = head_scheme(text)?;
+    of_scheme!(name, canonical(alloc, text), Err(Refusal::NotBuilt))
 }
 
 /// Whether a VERS text holds a version of its scheme: what the list means there, as it is read. `BadVers` of the head
@@ -92,21 +61,10 @@ pub fn has(alloc: Global, text: &str, version: &str) -> Result<bool, Refusal>
     ensures ok { IfOk result (IsHas text.now version.now) }
     ensures err { IfErr result (IsHasRefused text.now version.now) }
 {
-    let name = named(text)?;
-    match name {
-        SchemeName::Npm => {
-            let answer = has_version::<Npm>(alloc, text, version)?;
-            Ok(answer)
-        }
-        SchemeName::Deb => {
-            let answer = has_version::<Deb>(alloc, text, version)?;
-            Ok(answer)
-        }
-        SchemeName::Pypi
-        | SchemeName::Maven
-        | SchemeName::Gem
-        | SchemeName::Rpm
-        | SchemeName::Nuget
-        | SchemeName::Cargo => Err(Refusal::NotBuilt),
-    }
+    let name = head_scheme(text)?;
+    of_scheme!(
+        name,
+        has_version(alloc, text, version),
+        Err(Refusal::NotBuilt)
+    )
 }

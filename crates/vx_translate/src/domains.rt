@@ -1,11 +1,13 @@
 ghost use Rattle.std.specs.Prelude.{◌≡◌};
-ghost use Rattle.vx_translate.specs.Domains.{usual_of};
+ghost use Rattle.vx_translate.specs.Domains.{chosen_domain, usual_of};
+ghost use Rattle.vx_translate.specs.Table.{of_scheme};
 
 use vx_scheme::{Domain, SchemeName};
 
-/// The domain that is meant where a line names none. It takes no memory.
+/// The domain that is meant where a line names none: the usual one of the scheme's range language. It takes no memory.
 pub fn default_domain(name: SchemeName) -> Domain
-    ensures { result ≡ usual_of name }
+    ensures usual { result ≡ usual_of name }
+    ensures language { of_scheme (λ row. row.language.usual) result name ≡ result }
 {
     match name {
         SchemeName::Npm
@@ -15,4 +17,11 @@ pub fn default_domain(name: SchemeName) -> Domain
         | SchemeName::Nuget => Domain::All,
         SchemeName::Pypi | SchemeName::Gem | SchemeName::Cargo => Domain::Releases,
     }
+}
+
+/// The domain that is named, or the default of the scheme where none is. It takes no memory.
+pub fn chosen_domain(domain: Option<Domain>, name: SchemeName) -> Domain
+    ensures { result ≡ chosen_domain domain name }
+{
+    domain.unwrap_or(default_domain(name))
 }

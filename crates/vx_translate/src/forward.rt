@@ -1,7 +1,6 @@
 ghost use Rattle.std.specs.Prelude.{◌≡◌, ◌≢◌, IfOk, IfErr};
-ghost use Rattle.vx_scheme.specs.Domains.{InDomain};
 ghost use Rattle.vx_translate.specs.declared.refusal.Refusal.TheVariants as refusal_of;
-ghost use Rattle.vx_translate.specs.Forward.{Translates, HoldsSame, Refuses};
+ghost use Rattle.vx_translate.specs.Forward.{Translates, HoldsSame, HoldsNothing, RefusesForward};
 
 use crate::refusal::Refusal;
 use std::alloc::Global;
@@ -16,10 +15,10 @@ pub(crate) fn translate<N: Native>(
     domain: Domain,
     text: &str,
 ) -> Result<Text, Refusal>
-    ensures ok { IfOk result (Translates N.order N.name N.normal (N.Offers domain) (N.Makes domain) text.now) }
-    ensures members { IfOk result (HoldsSame N.name N.order N.Spells N.IsWithin N.IsVersion (InDomain N.Scheme domain) N.In text.now) }
-    ensures err { IfErr result (λ refusal. refusal ≢ refusal_of.NoMemory → Refuses N.order (N.Offers domain) (N.Makes domain) (N.Refuses domain) text.now refusal) }
-    ensures empty { result ≡ Err Refusal.Empty → (v : N.Version) → N.IsVersion v → InDomain N.Scheme domain v → ¬ (N.In text.now v) }
+    ensures ok { IfOk result (Translates N.Scheme N.Native.own domain text.now) }
+    ensures members { IfOk result (HoldsSame N.Scheme N.Native.own domain text.now) }
+    ensures err { IfErr result (λ refusal. refusal ≢ refusal_of.NoMemory → RefusesForward N.Scheme N.Native.own domain text.now refusal) }
+    ensures empty { result ≡ Err Refusal.Empty → HoldsNothing N.Scheme N.Native.own domain text.now }
 {
     if !N::offers(domain) {
         return Err(Refusal::DomainNotOffered);
@@ -34,7 +33,7 @@ pub(crate) fn translate<N: Native>(
         Err(FromSet::Empty) => return Err(Refusal::Empty),
         Err(FromSet::NoMemory) => return Err(Refusal::NoMemory),
     };
-    let mut out = Text::new(alloc);
+    let mut out = Text::with_room(alloc, text.len() + 32)?;
     write::<N>(&list, &mut out)?;
     Ok(out)
 }

@@ -1,6 +1,6 @@
 ghost use Rattle.std.specs.Prelude.{◌≢◌, IfOk, IfErr};
 ghost use Rattle.vx_translate.specs.declared.refusal.Refusal.TheVariants as refusal_of;
-ghost use Rattle.vx_translate.specs.Having.{IsAnswered, Refuses};
+ghost use Rattle.vx_translate.specs.Having.{TellsMembership, RefusesMembership};
 
 use crate::refusal::Refusal;
 use crate::vers_texts::read_list;
@@ -13,8 +13,8 @@ pub(crate) fn has_version<S: Scheme>(
     text: &str,
     version: &str,
 ) -> Result<bool, Refusal>
-    ensures ok { IfOk result (IsAnswered S.name S.order S.Spells S.IsWithin text.now version.now) }
-    ensures err { IfErr result (λ refusal. refusal ≢ refusal_of.NoMemory → Refuses S.name S.order S.Spells S.IsWithin text.now version.now refusal) }
+    ensures ok { IfOk result (TellsMembership S.Scheme.own text.now version.now) }
+    ensures err { IfErr result (λ refusal. refusal ≢ refusal_of.NoMemory → RefusesMembership S.Scheme.own text.now version.now refusal) }
 {
     let list = read_list::<S>(alloc, text)?;
     match S::read(alloc, version) {

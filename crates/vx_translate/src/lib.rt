@@ -9,12 +9,14 @@ mod domains;
 mod forward;
 mod having;
 mod refusal;
+mod table;
 #[cfg(test)]
 mod tests;
 mod translating;
 mod vers_texts;
 
 pub use by_head::{canon, from_vers, has};
-pub use domains::default_domain;
+pub use domains::{chosen_domain, default_domain};
 pub use refusal::{BackKind, Refusal, VersPart};
+pub use table::row_name;
 pub use translating::to_vers;

@@ -1,10 +1,9 @@
 ghost use Rattle.std.specs.Prelude.{◌≡◌, IfOk, IfErr, Err};
-ghost use Rattle.vx_translate.specs.ToVers.{IsTranslated, IsSameRange, IsRefused, HoldsNone};
+ghost use Rattle.vx_translate.specs.Names.{IsTranslated, IsSameRange, IsRefused, HoldsNone};
 
 use crate::forward::translate;
 use crate::refusal::Refusal;
-use npm_range::NpmRange;
-use relation_ranges::DebRange;
+use crate::table::of_scheme;
 use std::alloc::Global;
 use vx_scheme::{Domain, SchemeName, Text};
 
@@ -17,20 +16,5 @@ pub fn to_vers(alloc: Global, name: SchemeName, domain: Domain, text: &str) -> R
     // An empty range has no version of the domain.
     ensures empty { result ≡ Err Refusal.Empty → HoldsNone name domain text.now }
 {
-    match name {
-        SchemeName::Npm => {
-            let out = translate::<NpmRange>(alloc, domain, text)?;
-            Ok(out)
-        }
-        SchemeName::Deb => {
-            let out = translate::<DebRange>(alloc, domain, text)?;
-            Ok(out)
-        }
-        SchemeName::Pypi
-        | SchemeName::Maven
-        | SchemeName::Gem
-        | SchemeName::Rpm
-        | SchemeName::Nuget
-        | SchemeName::Cargo => Err(Refusal::NotBuilt),
-    }
+    of_scheme!(name, translate(alloc, domain, text), Err(Refusal::NotBuilt))
 }

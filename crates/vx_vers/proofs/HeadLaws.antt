@@ -1,5 +1,5 @@
 -- Texts without their blanks, and the head of a text.
-use Rattle.std.proofs.Common.{lit<, ◌≡◌, ◌≢◌, ◌<◌, ◌++◌, eqb, cond, not, ℕ, Bool, true, List, [], ◌∷◌, get_or, refl, sym, ap, subst, ◌∙◌, inl, inr, arith, Some, None, append-nil}
+use Rattle.std.proofs.Common.{lit<, ◌≡◌, ◌<◌, ◌++◌, eqb, cond, not, ℕ, Bool, true, false, List, [], ◌∷◌, get_or, refl, sym, ap, subst, ◌∙◌, inl, inr, arith, Some, None, append-nil}
 use Rattle.std.specs.Prelude.{codes, filter}
 use Rattle.std.specs.Char.{to_ascii_lowercase}
 use Rattle.std.specs.List.{list_all}
@@ -10,7 +10,7 @@ use Rattle.std.proofs.lemmas.List.Elements.{filter-append}
 use Rattle.vx_spec.specs.Marks.{IsCut, Lacks}
 use Rattle.vx_spec.specs.Runs.{is_solid}
 use Rattle.vx_spec.proofs.MarkLaws.{one_cut}
-use Rattle.vx_spec.proofs.TextLaws.{each_by_test}
+use Rattle.vx_spec.proofs.EndLaws.{lacks_by}
 use Rattle.vx_scheme.specs.declared.name.SchemeName.{SchemeName}
 use Rattle.vx_scheme.specs.declared.name.SchemeName.TheVariants.{Npm, Pypi, Maven, Gem, Deb, Rpm, Nuget, Cargo}
 use Rattle.vx_scheme.specs.Names.{text_of}
@@ -62,11 +62,11 @@ lacks_lowered c small (b ∷ text) lacks = (λ e. lacks.0 (ap to_ascii_lowercase
 abbrev pub is_not : ℕ → ℕ → Bool
 is_not c b = not (eqb b c)
 
-not_is : (c b : ℕ) → is_not c b ≡ true → b ≢ c
-not_is c b t = grind (arith, nat_tests)
+is_not_itself : (c : ℕ) → is_not c c ≡ false
+is_not_itself c = grind (arith, nat_tests)
 
 pub lacks_by_test : (c : ℕ) (text : List ℕ) → list_all (is_not c) text ≡ true → Lacks c text
-lacks_by_test c text all = each_by_test (λ b. b ≢ c) (is_not c) text (not_is c) all
+lacks_by_test c text all = lacks_by (is_not c) c (is_not_itself c) text all
 
 -- the head has no '/' in it, and the name no ':'
 head_lacks : (name : SchemeName) → Lacks 47 (codes "vers:" ++ text_of name)

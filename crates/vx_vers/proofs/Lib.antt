@@ -7,6 +7,7 @@ pub mod Pushed
 pub mod Ranked
 pub mod ReadLaws
 pub mod Sides
+pub mod SettleLaws
 pub mod SignLaws
 pub mod SolidLaws
 pub mod SortedLaws

@@ -1,5 +1,5 @@
 -- What a text spells and why it is refused: one list at most, one refusal at most, and never both.
-use Rattle.std.proofs.Common.{◌≡◌, ◌≢◌, ◌⊎◌, ◌<◌, ◌≤◌, ◌+◌, ◌++◌, cond, ℕ, List, [], ◌∷◌, length, refl, sym, ap, subst, ◌∙◌, inl, inr, arith, Option, Some, None, Ordering, Less, Equal, Greater}
+use Rattle.std.proofs.Common.{◌≡◌, ◌≢◌, ◌⊎◌, ◌<◌, ◌≤◌, ◌++◌, cond, ℕ, List, [], ◌∷◌, length, refl, sym, ap, subst, ◌∙◌, inl, inr, arith, Option, Some, None, Ordering, Less, Equal, Greater}
 use Rattle.std.specs.Prelude.{IsPermutation, sum_by}
 use Rattle.std.specs.Cmp.{IsTotalOrder, tied_itself}
 use Rattle.std.specs.List.{AllByRecursion}
@@ -9,6 +9,7 @@ use Rattle.std.proofs.lemmas.List.Elements.{All-from_recursion, recursion_from_A
 use Rattle.std.proofs.lemmas.List.Sorted.{All-permutation, Contains-permutation, IsPermutation-sym, sum_by-IsPermutation}
 use Rattle.std.proofs.lemmas.List.Sums.{sum_by-append, sum_by-cons}
 use Rattle.vx_spec.specs.Firsts.{IsFirst}
+use Rattle.vx_spec.proofs.EachLaws.{one_each}
 use Rattle.vx_spec.proofs.FirstLaws.{one_first}
 use Rattle.vx_spec.proofs.MarkLaws.{one_join}
 use Rattle.vx_scheme.specs.declared.name.SchemeName.{SchemeName}
@@ -16,17 +17,18 @@ use Rattle.vx_text.specs.Escapes.{unescaped}
 use Rattle.vx_vers.specs.declared.constraints.Constraint.{Constraint}
 use Rattle.vx_vers.specs.declared.fault.VersFault.{VersFault}
 use Rattle.vx_vers.specs.declared.fault.VersFault.TheVariants as fault_of
-use Rattle.vx_vers.specs.Grammar.{AreParts, EachWithin, HasForm, HasStar, IsListOf, IsStarAlone, IsWritten, NoStar, SpellEach, SpellsConstraint, SpellsSolid, kept}
-use Rattle.vx_vers.specs.Refusals.{HasDuplicate, HasEqual, HasFirstFault, HasVersionFault, IsApart, IsFirstDuplicate, IsFormless, LacksForm, RefusesPart, RefusesSolid, RefusesWritten, SpellsWithin, numbered}
+use Rattle.vx_vers.specs.Grammar.{AreParts, EachWithin, HasForm, HasStar, IsListOf, IsStarAlone, IsWritten, NoStar, SpellEach, SpellsConstraint, SpellsSolid, kept_parts}
+use Rattle.vx_vers.specs.Refusals.{HasDuplicate, HasEqual, HasFirstFault, HasVersionFault, IsApart, IsFirstDuplicate, IsFormless, LacksForm, RefusesPart, RefusesSolid, RefusesWritten, SpellsWithin, numbered_texts}
 use Rattle.vx_vers.specs.Sorted.{IsSorted}
 use Rattle.vx_vers.proofs.HeadLaws.{one_head}
+use Rattle.vx_vers.proofs.ReadLaws.{no_fault}
 use Rattle.vx_vers.proofs.Ranked.{Among, among, at_member, contains}
 use Rattle.vx_vers.proofs.SignLaws.{one_sign}
 
 -- ---- the written constraints
 
 one_parts : {text : List ℕ} {a b : List (List ℕ)} → AreParts text a → AreParts text b → a ≡ b
-one_parts p q = p.counted ∙ ap kept (one_join 124 p.parts q.parts p.apart q.apart p.some q.some (sym p.joined ∙ q.joined)) ∙ sym q.counted
+one_parts p q = p.counted ∙ ap kept_parts (one_join 124 p.parts q.parts p.apart q.apart p.some q.some (sym p.joined ∙ q.joined)) ∙ sym q.counted
 
 one_written : {name : SchemeName} {text : List ℕ} {a b : List (List ℕ)} → IsWritten name text a → IsWritten name text b → a ≡ b
 one_written {name} {text} {a} {b} p q = one_parts p.parts (subst (λ t. AreParts t b) (sym (one_head p.head q.head).1) q.parts)
@@ -54,13 +56,8 @@ module _ {V : Type 0} (Spells : List ℕ → V → Type 0) (one_version : (text 
       let h = one_sign p.signed q.signed in
       same_constraint c d h.0 (one_version (unescaped q.raw) c.version d.version (subst (λ raw. Spells (unescaped raw) c.version) h.1 p.version) q.version)
 
-  one_each : (texts : List (List ℕ)) (a b : List (Constraint V)) → SpellEach Spells texts a → SpellEach Spells texts b → a ≡ b
-  one_each [] [] [] p q = refl
-  one_each [] [] (d ∷ b) p q = absurd q
-  one_each [] (c ∷ a) b p q = absurd p
-  one_each (text ∷ texts) [] b p q = absurd p
-  one_each (text ∷ texts) (c ∷ a) [] p q = absurd q
-  one_each (text ∷ texts) (c ∷ a) (d ∷ b) p q = cc (one_constraint p.0 q.0, one_each texts a b p.1 q.1)
+  one_spelled : (texts : List (List ℕ)) (a b : List (Constraint V)) → SpellEach Spells texts a → SpellEach Spells texts b → a ≡ b
+  one_spelled texts a b p q = one_each (SpellsConstraint Spells) (λ text c d. one_constraint) texts a b p q
 
   module _ (IsWithin : V → Type 0) where
     -- ---- one text is refused in one way, or not at all
@@ -107,14 +104,8 @@ module _ {V : Type 0} (Spells : List ℕ → V → Type 0) (one_version : (text 
     one_part part (Some a) None p q = absurd (part_spelled part a q p)
     one_part part (Some a) (Some b) p q = ap Some (one_fault part a b p q)
 
-    -- what is spelled within the limits has no fault
-    no_fault : (k : ℕ) (texts : List (List ℕ)) (list : List (Constraint V)) → SpellEach Spells texts list → EachWithin IsWithin list → IsFirst (RefusesPart Spells IsWithin) (numbered k texts) None
-    no_fault k [] list p within = refl
-    no_fault k (text ∷ texts) [] p within = absurd p
-    no_fault k (text ∷ texts) (c ∷ list) p within = inl (record { constraint = c; spelled = p.0; within = within.0 }, no_fault (k + 1) texts list p.1 within.1)
-
     faultless : (texts : List (List ℕ)) (list : List (Constraint V)) (fault : VersFault) → SpellEach Spells texts list → EachWithin IsWithin list → HasFirstFault Spells IsWithin texts fault → ⊥
-    faultless texts list fault p within h = let e = one_first (RefusesPart Spells IsWithin) one_part (numbered 1 texts) None (Some fault) (no_fault 1 texts list p within) h.first in cc e
+    faultless texts list fault p within h = let e = one_first (RefusesPart Spells IsWithin) one_part (numbered_texts 1 texts) None (Some fault) (no_fault Spells IsWithin 1 texts list p within) h.first in cc e
 
   module _ (order : V → V → Ordering) (laws : IsTotalOrder order) where
     -- ---- a sorted list of given constraints
@@ -152,7 +143,7 @@ module _ {V : Type 0} (Spells : List ℕ → V → Type 0) (one_version : (text 
 
     one_list_of : (written : List (List ℕ)) (a b : List (Constraint V)) → IsListOf order Spells written a → IsListOf order Spells written b → a ≡ b
     one_list_of written a b p q =
-        let e = one_each written p.constraints q.constraints p.spelled q.spelled in
+        let e = one_spelled written p.constraints q.constraints p.spelled q.spelled in
         let same : IsPermutation p.constraints b = subst (λ cs. IsPermutation cs b) (sym e) q.same in
         one_sorted a b p.sorted q.sorted
         (λ z m. moved p.constraints b same z (moved a p.constraints (IsPermutation-sym p.constraints a p.same) z m))
@@ -271,7 +262,7 @@ module _ {V : Type 0} (Spells : List ℕ → V → Type 0) (one_version : (text 
 
       empty_first : (written : List (List ℕ)) (fault : VersFault) → written ≡ [] → HasFirstFault Spells IsWithin written fault → ⊥
       empty_first written fault e h =
-          let first : IsFirst (RefusesPart Spells IsWithin) (numbered 1 []) (Some fault) = subst (λ texts. IsFirst (RefusesPart Spells IsWithin) (numbered 1 texts) (Some fault)) e h.first in
+          let first : IsFirst (RefusesPart Spells IsWithin) (numbered_texts 1 []) (Some fault) = subst (λ texts. IsFirst (RefusesPart Spells IsWithin) (numbered_texts 1 texts) (Some fault)) e h.first in
           cc first
 
       empty_twice : (written : List (List ℕ)) (k : ℕ) → written ≡ [] → HasDuplicate order Spells IsWithin written k → ⊥
@@ -290,7 +281,7 @@ module _ {V : Type 0} (Spells : List ℕ → V → Type 0) (one_version : (text 
 
       twice_twice : (written : List (List ℕ)) (j k : ℕ) → HasDuplicate order Spells IsWithin written j → HasDuplicate order Spells IsWithin written k → j ≡ k
       twice_twice written j k p q =
-          one_duplicate p.constraints j k p.first (subst (λ list. IsFirstDuplicate order list k) (sym (one_each written p.constraints q.constraints p.spelled q.spelled)) q.first)
+          one_duplicate p.constraints j k p.first (subst (λ list. IsFirstDuplicate order list k) (sym (one_spelled written p.constraints q.constraints p.spelled q.spelled)) q.first)
 
       one_cause : (written : List (List ℕ)) (a b : VersFault) → HasCause written a → HasCause written b → a ≡ b
       one_cause written a b (inl p) (inl q) = p.1 ∙ sym q.1
@@ -298,7 +289,7 @@ module _ {V : Type 0} (Spells : List ℕ → V → Type 0) (one_version : (text 
       one_cause written a b (inl p) (inr (inr (inl q))) = absurd (empty_twice written q.0 p.0 q.2)
       one_cause written a b (inl p) (inr (inr (inr q))) = absurd (empty_starred written p.0 q.2)
       one_cause written a b (inr (inl p)) (inl q) = absurd (empty_first written a q.0 p)
-      one_cause written a b (inr (inl p)) (inr (inl q)) = let e = one_first (RefusesPart Spells IsWithin) (one_part IsWithin) (numbered 1 written) (Some a) (Some b) p.first q.first in cc e
+      one_cause written a b (inr (inl p)) (inr (inl q)) = let e = one_first (RefusesPart Spells IsWithin) (one_part IsWithin) (numbered_texts 1 written) (Some a) (Some b) p.first q.first in cc e
       one_cause written a b (inr (inl p)) (inr (inr (inl q))) = absurd (first_twice written a q.0 p q.2)
       one_cause written a b (inr (inl p)) (inr (inr (inr q))) = absurd (no_star written p.stars q.2)
       one_cause written a b (inr (inr (inl p))) (inl q) = absurd (empty_twice written p.0 q.0 p.2)
@@ -333,7 +324,7 @@ module _ {V : Type 0} (Spells : List ℕ → V → Type 0) (one_version : (text 
           (recursion_from_All (λ c. IsWithin c.version) p.constraints
           (All-permutation (λ c. IsWithin c.version) list p.constraints (IsPermutation-sym p.constraints list p.same) (All-from_recursion (λ c. IsWithin c.version) list within))) q
       not_list_and_cause written list fault p within (inr (inr (inl q))) =
-          let e = one_each written q.2.constraints p.constraints q.2.spelled p.spelled in
+          let e = one_spelled written q.2.constraints p.constraints q.2.spelled p.spelled in
           no_duplicate p.constraints list q.0 p.same p.sorted (subst (λ cs. IsFirstDuplicate order cs q.0) e q.2.first)
       not_list_and_cause written list fault p within (inr (inr (inr q))) = no_star written p.stars q.2
 

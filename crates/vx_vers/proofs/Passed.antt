@@ -11,7 +11,7 @@ use Rattle.vx_vers.specs.declared.constraints.Comparator.TheVariants.{Equal as E
 use Rattle.vx_vers.specs.declared.constraints.Constraint.{Constraint}
 use Rattle.vx_vers.specs.Meaning.{kind, is_hole, opens_next, side_at, side, is_all_holes, meaning}
 use Rattle.vx_vers.specs.Sorted.{IsSorted}
-use Rattle.vx_vers.specs.Passing.{holds_below, holds_own, meaning_from}
+use Rattle.vx_vers.specs.Steps.Passing.{holds_below, holds_own, meaning_from}
 use Rattle.vx_vers.proofs.Sides.{AllAt, not_point, not_hole, upper_opens, upper_closes, upper_equal, upper_not_equal, above}
 use Rattle.vx_vers.proofs.SortedLaws.{sorted_drop}
 

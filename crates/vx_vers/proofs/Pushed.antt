@@ -3,7 +3,7 @@ use Rattle.std.proofs.Common.{◌≡◌, ◌<◌, ◌+◌, ℕ, suc, List, [], �
 use Rattle.std.specs.List.{join_with_byte}
 use Rattle.std.proofs.lemmas.List.{take_more, map_push, length-map, length-take-le}
 use Rattle.std.proofs.lemmas.Bool.{ne_eqb}
-use Rattle.vx_vers.specs.Texts.{bar_before}
+use Rattle.vx_vers.specs.Steps.Writing.{bar_before}
 
 join_more : (x : List ℕ) (xs : List (List ℕ)) (y : List ℕ) → join_with_byte 124 (x ∷ (xs ++ y ∷ [])) ≡ join_with_byte 124 (x ∷ xs) ++ 124 ∷ y
 join_more x [] y = refl

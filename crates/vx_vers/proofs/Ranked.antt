@@ -10,7 +10,7 @@ use Rattle.std.proofs.lemmas.Bool.{cases_lt, eq-eqb, lt-ltb}
 use Rattle.std.proofs.lemmas.Bool.Decides.{nat_tests}
 use Rattle.std.proofs.lemmas.List.Sums.{sum_by-cons}
 use Rattle.std.proofs.lemmas.List.Sorted.{Contains-permutation, IsPermutation-sym, ranks_by, sorted_far, sum_by-IsPermutation}
-use Rattle.vx_vers.specs.Numbering.{Once, has_number, IsLeastTwice, IsTwice, constraints_of, least_behind, least_next, least_twice, lower, numbered_cmp}
+use Rattle.vx_vers.specs.Steps.Numbering.{Once, has_number, IsLeastTwice, IsTwice, constraints_of, least_behind, least_next, least_twice, lower, numbered_cmp}
 use Rattle.vx_vers.specs.Sorted.{IsSorted}
 use Rattle.vx_vers.specs.declared.sorting.Numbered.{Numbered}
 

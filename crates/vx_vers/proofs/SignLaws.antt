@@ -4,7 +4,7 @@ use Rattle.std.specs.Prelude.{codes}
 use Rattle.vx_vers.specs.declared.constraints.Comparator.{Comparator}
 use Rattle.vx_vers.specs.declared.constraints.Comparator.TheVariants.{Equal as EqualTo, NotEqual as NotEqualTo, Less as LessThan, LessEqual as AtMost, Greater as GreaterThan, GreaterEqual as AtLeast}
 use Rattle.vx_vers.specs.Grammar.{IsSigned, Writes}
-use Rattle.vx_vers.specs.Reading.{HasNoLongSign}
+use Rattle.vx_vers.specs.Steps.Reading.{HasNoLongSign}
 
 -- no comparator is longer than two bytes
 short : (front : List ℕ) (c : Comparator) → Writes front c → length front ≤ 2

@@ -9,7 +9,7 @@ use Rattle.vx_vers.specs.declared.fault.VersFault.{VersFault}
 use Rattle.vx_vers.specs.declared.fault.VersFault.TheVariants as fault_of
 use Rattle.vx_vers.specs.Grammar.{AreParts, EachWithin, HasStar, IsStarAlone, SpellsList, SpellsSolid}
 use Rattle.vx_vers.specs.Heads.{HasHead, NoHead, solid}
-use Rattle.vx_vers.specs.Reading.{IsSolidReadAs, IsWrittenReadAs}
+use Rattle.vx_vers.specs.Steps.Reading.{IsSolidReadAs, IsWrittenReadAs}
 use Rattle.vx_vers.specs.Refusals.{Refuses, RefusesSolid}
 use Rattle.vx_vers.proofs.HeadLaws.{filter_all, one_head}
 

@@ -2,6 +2,7 @@
 use Rattle.std.proofs.Common.{◌≡◌, ℕ, zero, suc, drop, List, [], ◌∷◌, ◌++◌, Ordering, Less, Result, Ok, Err, OnOk, OnErr, Option, Some, None, MatchOption, subst, sym}
 use Rattle.std.specs.Cmp.{IsTotalOrder}
 use Rattle.std.specs.List.{AllByRecursion}
+use Rattle.vx_spec.proofs.EachLaws.{each_append}
 use Rattle.vx_vers.specs.declared.constraints.Constraint.{Constraint}
 use Rattle.vx_vers.specs.Sorted.{IsSorted, IsAboveLast}
 
@@ -10,10 +11,6 @@ module _ {V : Type 0} (order : V → V → Ordering) (laws : IsTotalOrder order)
   first_below first [] v sorted above = above
   first_below first (next ∷ rest) v sorted above = laws.trans first.version next.version v sorted.0.0 (first_below next rest v sorted.1 above)
 
-  all_push : {C : Type 0} (P : C → Type 0) (list : List C) (item : C) → AllByRecursion P list → P item → AllByRecursion P (list ++ item ∷ [])
-  all_push P [] item all one = (one, tt)
-  all_push P (first ∷ list) item all one = (all.0, all_push P list item all.1 one)
-
   above_rest : (first : Constraint V) (rest : List (Constraint V)) (v : V) → IsAboveLast order (first ∷ rest) v → IsAboveLast order rest v
   above_rest first [] v above = tt
   above_rest first (next ∷ rest) v above = above
@@ -21,7 +18,7 @@ module _ {V : Type 0} (order : V → V → Ordering) (laws : IsTotalOrder order)
   pub sorted-push : (list : List (Constraint V)) (item : Constraint V) → IsSorted order list → IsAboveLast order list item.version → IsSorted order (list ++ item ∷ [])
   sorted-push [] item sorted above = (tt, tt)
   sorted-push (first ∷ rest) item sorted above = (
-    all_push (λ later. order first.version later.version ≡ Less) rest item sorted.0 (first_below first rest item.version sorted above),
+    each_append (λ later. order first.version later.version ≡ Less) rest (item ∷ []) sorted.0 (first_below first rest item.version sorted above, tt),
     sorted-push rest item sorted.1 (above_rest first rest item.version above),
   )
 

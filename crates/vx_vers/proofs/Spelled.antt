@@ -8,6 +8,7 @@ use Rattle.std.proofs.lemmas.List.Elements.{All-from_recursion}
 use Rattle.std.proofs.lemmas.List.Sorted.{IsPermutation-refl}
 use Rattle.vx_spec.specs.Marks.{Lacks}
 use Rattle.vx_spec.specs.Runs.{is_solid}
+use Rattle.vx_spec.proofs.EndLaws.{lacks_append}
 use Rattle.vx_spec.proofs.TextLaws.{each_append, each_by_test, each_joined, test_by_each}
 use Rattle.vx_scheme.specs.declared.name.SchemeName.{SchemeName}
 use Rattle.vx_scheme.specs.declared.name.SchemeName.TheVariants.{Npm, Pypi, Maven, Gem, Deb, Rpm, Nuget, Cargo}
@@ -15,12 +16,11 @@ use Rattle.vx_scheme.specs.Names.{text_of}
 use Rattle.vx_scheme.specs.Scheme.{TextLaws}
 use Rattle.vx_text.specs.Escapes.{escaped, is_left, unescaped}
 use Rattle.vx_text.proofs.EscapeLaws.{escaped-whole, escaped_ascii, escaped_lacks, escaped_some, unescaped-escaped}
-use Rattle.vx_text.proofs.Joins.{lacks_append}
 use Rattle.vx_vers.specs.declared.constraints.Comparator.{Comparator}
 use Rattle.vx_vers.specs.declared.constraints.Comparator.TheVariants.{Equal as EqualTo, NotEqual as NotEqualTo, Less as LessThan, LessEqual as AtMost, Greater as GreaterThan, GreaterEqual as AtLeast}
 use Rattle.vx_vers.specs.declared.constraints.Constraint.{Constraint}
 use Rattle.vx_vers.specs.Again.{EachWritable, IsSameList, IsWritable, SpellsSame}
-use Rattle.vx_vers.specs.Grammar.{AreParts, EachWithin, IsListOf, IsSigned, IsStarAlone, NoStar, SpellEach, SpellsConstraint, SpellsSolid, Writes, kept}
+use Rattle.vx_vers.specs.Grammar.{AreParts, EachWithin, IsListOf, IsSigned, IsStarAlone, NoStar, SpellEach, SpellsConstraint, SpellsSolid, Writes, kept_parts}
 use Rattle.vx_vers.specs.Heads.{IsNamed, solid}
 use Rattle.vx_vers.specs.Sorted.{IsSorted}
 use Rattle.vx_vers.specs.Texts.{constraint_text, constraints_text, sign, vers_text}
@@ -139,7 +139,7 @@ not_empty : (a raw : List ℕ) → raw ≢ [] → a ++ raw ≢ []
 not_empty [] raw some = some
 not_empty (x ∷ a) raw some = λ e. cc e
 
-kept_some : (text : List ℕ) (texts : List (List ℕ)) → text ≢ [] → kept (text ∷ texts) ≡ text ∷ kept texts
+kept_some : (text : List ℕ) (texts : List (List ℕ)) → text ≢ [] → kept_parts (text ∷ texts) ≡ text ∷ kept_parts texts
 kept_some [] texts some = absurd (some refl)
 kept_some (b ∷ text) texts some = refl
 
@@ -206,7 +206,7 @@ module _ {V : Type 0} (order : V → V → Ordering) (laws : IsTotalOrder order)
   texts_apart [] = tt
   texts_apart (c ∷ list) = (lacks_append 124 (sign c.comparator) (escaped (normal c.version)) (sign_lacks_bar c.comparator) (escaped_lacks 124 (normal c.version) refl (omega arith)), texts_apart list)
 
-  texts_kept : (list : List (Constraint V)) → EachWritable IsVersion IsWithin normal list → kept (map (constraint_text normal) list) ≡ map (constraint_text normal) list
+  texts_kept : (list : List (Constraint V)) → EachWritable IsVersion IsWithin normal list → kept_parts (map (constraint_text normal) list) ≡ map (constraint_text normal) list
   texts_kept [] all = refl
   texts_kept (c ∷ list) all =
       kept_some (constraint_text normal c) (map (constraint_text normal) list) (some_text c all.0.is)

@@ -1,9 +1,10 @@
 -- From what a scheme answers to what is answered of a constraint, and from what was printed to what is read of it.
-use Rattle.std.proofs.Common.{◌≡◌, ◌≢◌, ◌<◌, ◌≤◌, arith, ℕ, true, List, [], refl, sym, ap, subst, ◌∙◌, Result, Ok, Err, Ordering}
+use Rattle.std.proofs.Common.{◌≡◌, ◌≢◌, ◌<◌, ◌≤◌, ◌-◌, ◌++◌, arith, ℕ, true, List, [], length, take, drop, refl, sym, ap, subst, ◌∙◌, Result, Ok, Err, Ordering}
 use Rattle.std.specs.Prelude.{IfErr, IfOk, IsUtf8}
 use Rattle.std.specs.Cmp.{IsTotalOrder}
 use Rattle.std.specs.List.{AllByRecursion, list_all}
 use Rattle.std.proofs.lemmas.Bool.Decides.{nat_tests}
+use Rattle.std.proofs.lemmas.List.{drop_at, take_rest}
 use Rattle.std.proofs.lemmas.List.Elements.{All-from_recursion}
 use Rattle.vx_spec.proofs.TextLaws.{each_by_test, utf8_by_each}
 use Rattle.vx_scheme.specs.declared.name.SchemeName.{SchemeName}
@@ -16,15 +17,15 @@ use Rattle.vx_vers.specs.declared.constraints.Comparator.{Comparator}
 use Rattle.vx_vers.specs.declared.constraints.Constraint.{Constraint}
 use Rattle.vx_vers.specs.declared.fault.VersFault.{VersFault}
 use Rattle.vx_vers.specs.declared.fault.VersFault.TheVariants as fault_of
-use Rattle.vx_vers.specs.Again.{IsSameList, SpellsSame}
+use Rattle.vx_vers.specs.Again.{IsSameList, IsWritable, SpellsSame}
 use Rattle.vx_vers.specs.Grammar.{EachWithin, HasForm, IsSigned, SpellsList}
 use Rattle.vx_vers.specs.Heads.{solid}
-use Rattle.vx_vers.specs.Reading.{IsPartReadAs, constraint_read}
+use Rattle.vx_vers.specs.Steps.Reading.{IsPartReadAs, constraint_of_version}
 use Rattle.vx_vers.specs.Refusals.{Refuses}
 use Rattle.vx_vers.proofs.OneList.{one_list, unspelled}
 
 -- bytes that are never escaped stand for themselves
-left_escaped : (raw : List ℕ) → list_all is_left raw ≡ true → escaped raw ≡ raw
+pub left_escaped : (raw : List ℕ) → list_all is_left raw ≡ true → escaped raw ≡ raw
 left_escaped raw left = escaped_left raw (each_by_test (λ b. is_left b ≡ true) is_left raw (λ b t. t) left)
 
 left_small : (b : ℕ) → is_left b ≡ true → b < 128
@@ -43,10 +44,19 @@ left_form raw left some = record {
   utf8 = subst IsUtf8 (sym (left_stands raw left)) (utf8_by_each raw (left_bytes 128 (omega arith) raw left));
 }
 
+-- what was written behind a text
+pub left_tail : (old normal whole : List ℕ) (start : ℕ) → start ≡ length old → whole ≡ old ++ normal → list_all is_left (take (length whole - start) (drop start whole)) ≡ true → list_all is_left normal ≡ true
+left_tail old normal whole start size e left =
+    ap (list_all is_left) (sym (take_rest whole start ∙ ap (drop start) e ∙ ap (λ (k : ℕ). drop k (old ++ normal)) size ∙ drop_at old normal (length old) refl)) ∙ left
+
+pub left_writable : {V : Type 0} (IsVersion IsWithin : V → Type 0) (normal : V → List ℕ) (v : V) → IsVersion v → IsWithin v → list_all is_left (normal v) ≡ true → IsWritable IsVersion IsWithin normal v
+left_writable IsVersion IsWithin normal v is within left =
+    record { is = is; within = within; bytes = left_bytes 256 (omega arith) (normal v) left; utf8 = utf8_by_each (normal v) (left_bytes 128 (omega arith) (normal v) left) }
+
 module _ {V : Type 0} (Spells : List ℕ → V → Type 0) (IsWithin : V → Type 0) where
   -- what the scheme answers of the version is what is answered of the constraint
   pub part_read : (k : ℕ) (text raw plain : List ℕ) (c : Comparator) (answer : Result V VersionFault) → IsSigned text c raw → HasForm raw → unescaped raw ≡ plain
-      → IfOk answer (λ v. Spells plain v × IsWithin v) → IfErr answer (RefusesVersion Spells IsWithin plain) → IsPartReadAs Spells IsWithin (k, text) (constraint_read c k answer)
+      → IfOk answer (λ v. Spells plain v × IsWithin v) → IfErr answer (RefusesVersion Spells IsWithin plain) → IsPartReadAs Spells IsWithin (k, text) (constraint_of_version c k answer)
   part_read k text raw plain c (Ok v) signed form is ok err = (record { raw = raw; signed = signed; form = form; version = subst (λ t. Spells t v) (sym is) ok.0 }, ok.1)
   part_read k text raw plain c (Err version_fault_of.NotAVersion) signed form is ok err = λ cause. (
     refl,

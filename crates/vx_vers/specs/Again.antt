@@ -1,4 +1,4 @@
--- What the printed text of a list spells.
+-- VERS, "Normalized, canonical representation and validation": what the printed text of a list spells.
 use Rattle.std.specs.Prelude.{◌≡◌, ◌<◌, ℕ, List, [], ◌∷◌, IsUtf8, ⊤}
 use Rattle.std.specs.List.{AllByRecursion}
 use Rattle.std.specs.declared.cmp.Ordering.{Ordering}

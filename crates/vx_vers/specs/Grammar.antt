@@ -1,7 +1,9 @@
--- Which texts spell a list of constraints. `Spells` and `order` are those of a scheme, and numerals have no limit.
-use Rattle.std.specs.Prelude.{◌≡◌, ◌≢◌, ◌<◌, ◌≤◌, ◌⊎◌, ℕ, List, [], ◌∷◌, ◌++◌, codes, length, IsUtf8, IsPermutation, ⊤}
+-- VERS, "<version-constraint>" and "Parsing and validating version range specifiers": which texts spell a list of
+-- constraints. `Spells` and `order` are those of a scheme, and numerals have no limit.
+use Rattle.std.specs.Prelude.{◌≡◌, ◌≢◌, ◌<◌, ◌≤◌, ◌⊎◌, ℕ, List, [], ◌∷◌, ◌++◌, codes, length, IsUtf8, IsPermutation}
 use Rattle.std.specs.List.{AllByRecursion, join_with_byte}
 use Rattle.std.specs.declared.cmp.Ordering.{Ordering}
+use Rattle.vx_spec.specs.Each.{AreEach}
 use Rattle.vx_spec.specs.Marks.{Lacks}
 use Rattle.vx_scheme.specs.declared.name.SchemeName.{SchemeName}
 use Rattle.vx_text.specs.Escapes.{IsWhole, unescaped}
@@ -13,10 +15,10 @@ use Rattle.vx_vers.specs.Sorted.{IsSorted}
 use Rattle.vx_vers.specs.Texts.{sign}
 
 -- the parts that are not empty
-abbrev pub kept : List (List ℕ) → List (List ℕ)
-kept [] = []
-kept ([] ∷ parts) = kept parts
-kept ((b ∷ part) ∷ parts) = (b ∷ part) ∷ kept parts
+abbrev pub kept_parts : List (List ℕ) → List (List ℕ)
+kept_parts [] = []
+kept_parts ([] ∷ parts) = kept_parts parts
+kept_parts ((b ∷ part) ∷ parts) = (b ∷ part) ∷ kept_parts parts
 
 -- The text is parts with '|' between each two, and the written constraints are those that are not empty; '|' is 124.
 pub record AreParts (text : List ℕ) (written : List (List ℕ)) : Type 0 where
@@ -24,7 +26,7 @@ pub record AreParts (text : List ℕ) (written : List (List ℕ)) : Type 0 where
   pub some : 0 < length parts
   pub joined : text ≡ join_with_byte 124 parts
   pub apart : AllByRecursion (Lacks 124) parts
-  pub counted : written ≡ kept parts
+  pub counted : written ≡ kept_parts parts
 
 -- a text without blanks is the head of the scheme and the written constraints
 pub record IsWritten (name : SchemeName) (text : List ℕ) (written : List (List ℕ)) : Type 0 where
@@ -58,10 +60,7 @@ pub record SpellsConstraint {V : Type 0} (Spells : List ℕ → V → Type 0) (t
 
 -- the texts spell the constraints, one each, in their order
 abbrev pub SpellEach : {V : Type 0} → (List ℕ → V → Type 0) → List (List ℕ) → List (Constraint V) → Type 0
-SpellEach Spells [] [] = ⊤
-SpellEach Spells [] (c ∷ constraints) = ⊥
-SpellEach Spells (text ∷ texts) [] = ⊥
-SpellEach Spells (text ∷ texts) (c ∷ constraints) = SpellsConstraint Spells text c × SpellEach Spells texts constraints
+SpellEach Spells texts constraints = AreEach (SpellsConstraint Spells) texts constraints
 
 -- no text is `*`
 abbrev pub NoStar : List (List ℕ) → Type 0

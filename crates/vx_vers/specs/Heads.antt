@@ -1,5 +1,6 @@
--- The head of a VERS text: `vers:`, the name of a scheme and '/', in any case of ASCII letters.
-use Rattle.std.specs.Prelude.{◌≡◌, ℕ, List, ◌∷◌, ◌++◌, codes, filter}
+-- VERS, "URI scheme" and "<versioning-scheme>": the head of a text, which is `vers:`, the name of a scheme and '/', in
+-- any case of ASCII letters.
+use Rattle.std.specs.Prelude.{◌≡◌, ℕ, List, ◌++◌, codes, filter}
 use Rattle.vx_spec.specs.Runs.{is_solid}
 use Rattle.vx_scheme.specs.declared.name.SchemeName.{SchemeName}
 use Rattle.vx_scheme.specs.Names.{text_of}
@@ -13,10 +14,10 @@ solid text = filter is_solid text
 abbrev pub IsNamed : List ℕ → SchemeName → Type 0
 IsNamed front name = lowered front ≡ codes "vers:" ++ text_of name
 
--- a text without blanks is the head of the scheme and what stands behind it; '/' is 47
+-- a text without blanks is the head of the scheme and what stands behind it
 pub record HasHead (text : List ℕ) (name : SchemeName) (behind : List ℕ) : Type 0 where
   pub front : List ℕ
-  pub joined : text ≡ front ++ 47 ∷ behind
+  pub joined : text ≡ front ++ (codes "/" ++ behind)
   pub named : IsNamed front name
 
 -- without its blanks the text begins with the head of the scheme

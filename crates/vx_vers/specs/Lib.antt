@@ -2,11 +2,9 @@ pub mod Again
 pub mod Grammar
 pub mod Heads
 pub mod Meaning
-pub mod Numbering
-pub mod Passing
-pub mod Reading
 pub mod Refusals
 pub mod Sorted
+pub mod Steps
 pub mod Texts
 pub mod Validity
 pub mod Walk

@@ -1,8 +1,10 @@
+-- VERS, "Checking if a version is contained within a range", for every sorted list.
+--
 -- What a sorted list of constraints means, over any order of versions. Each `>`, `>=`, `<` and `<=` is a cut of the
 -- line of versions: `>=` and `<` stand before their version, `>` and `<=` behind it; `>` and `>=` open, `<` and `<=`
--- close. A version is in where it is order-equal to one under `=`. It is also in where it is order-equal to none
--- under `!=`, and the last cut below it opens or the first cut above it closes. Where a list has nothing but `!=`, or
--- nothing at all, every version under no `!=` is in.
+-- close. A version is in where it is order-equal to one under `=`. It is also in where it is order-equal to none under
+-- `!=`, and the last cut below it opens or the first cut above it closes. Where a list has nothing but `!=`, or nothing
+-- at all, every version under no `!=` is in.
 use Rattle.std.specs.Prelude.{Bool, true, false, ◌&&◌, ◌||◌, not, List, [], ◌∷◌, filter}
 use Rattle.std.specs.List.{list_any, list_all}
 use Rattle.std.specs.declared.cmp.Ordering.{Ordering}

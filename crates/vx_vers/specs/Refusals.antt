@@ -1,5 +1,5 @@
--- Why a text is refused, and by which of its constraints. They are numbered from 1, in the order of the text, and
--- empty parts have no number.
+-- VERS, "Parsing and validating version range specifiers": why a text is refused, and by which of its constraints. They
+-- are numbered from 1, in the order of the text, and empty parts have no number.
 use Rattle.std.specs.Prelude.{◌≡◌, ◌≢◌, ◌≤◌, ◌+◌, ◌⊎◌, ℕ, List, [], ◌∷◌, ◌++◌, length, IsUtf8, Option, Some, None}
 use Rattle.std.specs.List.{AllByRecursion}
 use Rattle.std.specs.declared.cmp.Ordering.{Ordering}
@@ -18,9 +18,9 @@ use Rattle.vx_vers.specs.Heads.{HasHead, solid}
 use Rattle.vx_vers.specs.Grammar.{IsWritten, IsSigned, HasForm, SpellsConstraint, SpellEach, NoStar, HasStar, EachWithin}
 
 -- the texts with their numbers, from this number on
-abbrev pub numbered : ℕ → List (List ℕ) → List (ℕ × List ℕ)
-numbered k [] = []
-numbered k (text ∷ texts) = (k, text) ∷ numbered (k + 1) texts
+abbrev pub numbered_texts : ℕ → List (List ℕ) → List (ℕ × List ℕ)
+numbered_texts k [] = []
+numbered_texts k (text ∷ texts) = (k, text) ∷ numbered_texts (k + 1) texts
 
 -- behind the comparator nothing stands, or a '%' begins no escape, or what the escapes stand for is no UTF-8
 abbrev pub IsFormless : List ℕ → Type 0
@@ -61,7 +61,7 @@ RefusesPart Spells IsWithin part (Some fault_of.NoMemory) = ⊥
 -- none of the written constraints is `*`, and this is the fault of the first that has one
 pub record HasFirstFault {V : Type 0} (Spells : List ℕ → V → Type 0) (IsWithin : V → Type 0) (written : List (List ℕ)) (fault : VersFault) : Type 0 where
   pub stars : NoStar written
-  pub first : IsFirst (RefusesPart Spells IsWithin) (numbered 1 written) (Some fault)
+  pub first : IsFirst (RefusesPart Spells IsWithin) (numbered_texts 1 written) (Some fault)
 
 -- the version is order-equal to that of a constraint in the list
 abbrev pub HasEqual : {V : Type 0} → (V → V → Ordering) → V → List (Constraint V) → Type 0

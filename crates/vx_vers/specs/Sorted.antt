@@ -1,4 +1,4 @@
--- Constraints in the order of their versions.
+-- VERS, "Normalized, canonical representation and validation": constraints in the order of their versions.
 use Rattle.std.specs.Prelude.{◌≡◌, List, [], ◌∷◌}
 use Rattle.std.specs.declared.cmp.Ordering.{Ordering}
 use Rattle.std.specs.declared.cmp.Ordering.TheVariants.{Less}

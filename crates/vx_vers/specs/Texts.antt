@@ -1,6 +1,7 @@
--- The printed text of a list of constraints: `vers:`, the scheme's name, `/`, and the constraints in order, parted by
--- `|`. `=` is written without a sign. Each version is its normal text, escaped. The empty list is printed as `*`.
-use Rattle.std.specs.Prelude.{ℕ, ◌==◌, List, [], ◌∷◌, ◌++◌, map, codes, if◌then◌else◌}
+-- VERS, "Normalized, canonical representation and validation": the printed text of a list of constraints: `vers:`, the
+-- scheme's name, `/`, and the constraints in order, parted by `|`. `=` is written without a sign. Each version is its
+-- normal text, escaped. The empty list is printed as `*`.
+use Rattle.std.specs.Prelude.{ℕ, List, [], ◌∷◌, ◌++◌, map, codes}
 use Rattle.std.specs.List.{join_with_byte}
 use Rattle.vx_scheme.specs.declared.name.SchemeName.{SchemeName}
 use Rattle.vx_scheme.specs.Names.{text_of}
@@ -28,7 +29,3 @@ constraints_text normal (c ∷ list) = join_with_byte 124 (map (constraint_text 
 
 abbrev pub vers_text : {V : Type 0} → SchemeName → (V → List ℕ) → List (Constraint V) → List ℕ
 vers_text name normal list = (codes "vers:" ++ text_of name) ++ (codes "/" ++ constraints_text normal list)
-
--- '|' before each constraint but the first
-abbrev pub bar_before : ℕ → List ℕ
-bar_before i = if i == 0 then [] else codes "|"

@@ -1,6 +1,6 @@
--- When a list of constraints is valid, over any items that have a kind. First, with the `!=` left out, an `=` is
--- followed only by `=`, `>`, `>=` or nothing. Second, with `=` and `!=` left out, the comparators alternate between
--- greater (`>`, `>=`) and lesser (`<`, `<=`).
+-- VERS, "Normalized, canonical representation and validation": when a list of constraints is valid, over any items that
+-- have a kind. First, with the `!=` left out, an `=` is followed only by `=`, `>`, `>=` or nothing. Second, with `=`
+-- and `!=` left out, the comparators alternate between greater (`>`, `>=`) and lesser (`<`, `<=`).
 use Rattle.std.specs.Prelude.{Bool, true, false, ◌&&◌, not, List, [], ◌∷◌, filter}
 use Rattle.vx_vers.specs.Meaning.{Kind, point, hole, opening, closing, is_hole}
 

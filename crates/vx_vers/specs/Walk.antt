@@ -1,8 +1,8 @@
--- Membership as the specification of VERS walks through a valid list. A version that is order-equal to one under `=`,
--- `<=` or `>=` is in, and one that is order-equal to one under `!=` is out. On the `<`, `<=`, `>` and `>=` that are
--- left it is in where it lies below a first `<` or `<=`, above a last `>` or `>=`, or between a `>` or `>=` and the
--- directly following `<` or `<=`. Otherwise it is out. A single one of them is both first and last. A list of `!=`
--- alone holds every other version, and the empty list every version.
+-- VERS, "Checking if a version is contained within a range": membership as the specification walks through a valid
+-- list. A version that is order-equal to one under `=`, `<=` or `>=` is in, and one that is order-equal to one under
+-- `!=` is out. On the `<`, `<=`, `>` and `>=` that are left it is in where it lies below a first `<` or `<=`, above a
+-- last `>` or `>=`, or between a `>` or `>=` and the directly following `<` or `<=`. Otherwise it is out. A single one
+-- of them is both first and last. A list of `!=` alone holds every other version, and the empty list every version.
 use Rattle.std.specs.Prelude.{Bool, true, false, ◌&&◌, ◌||◌, not, List, [], ◌∷◌}
 use Rattle.std.specs.List.{list_any}
 use Rattle.std.specs.declared.cmp.Ordering.{Ordering}

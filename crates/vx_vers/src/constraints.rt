@@ -1,4 +1,4 @@
-ghost use Rattle.std.specs.Prelude.{◌≡◌, ◌↔◌, ◌<◌, [], ◌∷◌, ◌++◌, OnOk, OnErr, MatchOption, IsTrue, Some, length, slice_get};
+ghost use Rattle.std.specs.Prelude.{◌≡◌, ◌↔◌, ◌<◌, [], ◌∷◌, ◌++◌, IfOk, OnOk, OnErr, MatchOption, IsTrue, Some, length, slice_get};
 
 use std::alloc::Global;
 use std::marker::Model;
@@ -61,12 +61,36 @@ impl<S: Scheme> Constraints<S> {
         }
     }
 
-    /// The list of these constraints, which are sorted.
-    pub(crate) fn from_sorted(list: List<Constraint<S::Version>>) -> Constraints<S>
+    /// The empty list, with room for so many constraints.
+    pub fn with_room(alloc: Global, count: usize) -> Result<Constraints<S>, NoMemory>
+        ensures { IfOk result (λ list. list ≡ []) }
+    {
+        match List::with_room(alloc, count) {
+            Ok(list) => Ok(Constraints { list }),
+            Err(_) => Err(NoMemory),
+        }
+    }
+
+    /// The list of these constraints, which are sorted. It takes no memory.
+    pub fn from_sorted(list: List<Constraint<S::Version>>) -> Constraints<S>
         requires { IsSorted S.order list }
         ensures { result ≡ list }
     {
         Constraints { list }
+    }
+
+    /// The constraints. It takes no memory.
+    pub fn into_list(self) -> List<Constraint<S::Version>>
+        ensures items { result ≡ self }
+        ensures sorted { IsSorted S.order self }
+    {
+        let Constraints { list } = self;
+        list
+    }
+
+    /// The allocator that the list was made with.
+    pub fn alloc(&self) -> Global {
+        self.list.alloc()
     }
 
     /// How many constraints there are.

@@ -2,7 +2,7 @@
 
 ghost use Rattle.std.specs.Prelude.{◌≡◌};
 ghost use Rattle.vx_vers.specs.Meaning.{meaning};
-ghost use Rattle.vx_vers.specs.Passing.{holds_below, holds_own};
+ghost use Rattle.vx_vers.specs.Steps.Passing.{holds_below, holds_own};
 
 use crate::constraints::{Comparator, Constraint, Constraints};
 use std::cmp::Ordering;

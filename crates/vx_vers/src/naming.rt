@@ -6,9 +6,8 @@ ghost use Rattle.vx_scheme.specs.Names.{text_of};
 ghost use Rattle.vx_text.specs.Folding.{lowered};
 ghost use Rattle.vx_vers.specs.Heads.{HasHead, HeadIs, IsNamed, NoHead, solid};
 
-use crate::parting::is_solid_byte;
 use vx_scheme::SchemeName;
-use vx_text::cut;
+use vx_text::{ByteClass, Solids, cut};
 
 /// The scheme of the head of the text: `vers:`, the scheme's name and `/`, in any case of ASCII letters and with blanks
 /// anywhere. `None` comes exactly where the text has no head. It takes no memory.
@@ -30,14 +29,14 @@ pub(crate) fn cut_head(text: &str) -> Option<(SchemeName, &str)>
     let Some(rest) = behind else {
         return None;
     };
-    match named(front) {
+    match name_in_front(front) {
         Some(name) => Some((name, rest)),
         None => None,
     }
 }
 
 /// The scheme that the text before the `/` names.
-fn named(front: &str) -> Option<SchemeName>
+fn name_in_front(front: &str) -> Option<SchemeName>
     ensures { MatchOption result ((name : SchemeName) → ¬ (IsNamed (solid front.now) name)) (λ name. IsNamed (solid front.now) name) }
 {
     let (word, behind) = cut(front, ':');
@@ -45,14 +44,14 @@ fn named(front: &str) -> Option<SchemeName>
         return None;
     };
     if spells_word(word.as_bytes(), b"vers") {
-        scheme_of(name.as_bytes())
+        scheme_named(name.as_bytes())
     } else {
         None
     }
 }
 
 /// The scheme of this name.
-fn scheme_of(text: &[u8]) -> Option<SchemeName>
+fn scheme_named(text: &[u8]) -> Option<SchemeName>
     ensures { MatchOption result ((name : SchemeName) → lowered (solid text.now) ≢ text_of name) (λ name. lowered (solid text.now) ≡ text_of name) }
 {
     for name in [
@@ -78,7 +77,7 @@ fn spells_word(text: &[u8], word: &[u8]) -> bool
 {
     let mut rest = word;
     for byte in text {
-        if !is_solid_byte(*byte) {
+        if !Solids::is_one(*byte) {
             continue;
         }
         let [first, more @ ..] = rest else {

@@ -1,87 +1,61 @@
-ghost use Rattle.std.specs.Prelude.{◌≡◌, ◌≢◌, ◌==◌, ◌<◌, ◌++◌, ◌∷◌, [], ℕ, List, not, filter, map, IfOk, OnOk, MatchOption, true, false};
-ghost use Rattle.std.specs.List.{list_all};
+ghost use Rattle.std.specs.Prelude.{◌≡◌, ◌≢◌, ◌==◌, ◌<◌, ◌++◌, ℕ, List, not, filter, count_by, IfOk, OnOk, MatchOption};
+ghost use Rattle.std.specs.List.{list_all, list_any};
 ghost use Rattle.vx_spec.specs.Runs.{is_solid};
 ghost use Rattle.vx_vers.specs.Heads.{solid};
-ghost use Rattle.vx_vers.specs.Grammar.{AreParts, HasStar, IsSigned, NoStar, kept};
-ghost use Rattle.vx_vers.specs.Reading.{HasNoLongSign};
+ghost use Rattle.vx_vers.specs.Grammar.{IsSigned};
+ghost use Rattle.vx_vers.specs.Steps.Reading.{HasNoLongSign, is_some_part, is_star, parts_of};
 
 use crate::constraints::Comparator;
-use std::alloc::{AllocError, Global};
+use std::alloc::Global;
 use vx_scheme::{NoMemory, Text};
-use vx_text::cut;
+use vx_text::{ByteClass, Solids, cut};
 
-/// Whether the byte is neither a space nor a tab.
-pub(crate) fn is_solid_byte(byte: u8) -> bool
-    ensures { result ≡ is_solid byte }
-{
-    !(byte == b' ' || byte == b'\t')
-}
-
-/// Whether the text has no blank.
+/// Whether the text has no blank. It takes no memory.
 pub(crate) fn is_solid(text: &str) -> bool
     ensures { result ≡ list_all is_solid text.now }
 {
-    text.as_bytes().iter().all(|byte| is_solid_byte(*byte))
+    text.as_bytes().iter().all(|byte| Solids::is_one(*byte))
 }
 
 /// The text without its blanks.
 pub(crate) fn without_blanks(alloc: Global, text: &str) -> Result<Text, NoMemory>
     ensures { IfOk result (λ plain. plain ≡ solid text.now) }
 {
-    let spaceless = without(alloc, text, ' ')?;
-    without(alloc, spaceless.as_str(), '\t')
-}
-
-/// The text without a byte. The byte is an ASCII character.
-fn without(alloc: Global, text: &str, byte: char) -> Result<Text, NoMemory>
-    requires { byte < 128 }
-    ensures { IfOk result (λ plain. plain ≡ filter (λ b. not (b == byte)) text.now) }
-{
-    let mut out = Text::new(alloc);
+    let mut out = Text::with_room(alloc, text.len())?;
     let mut rest = Some(text);
     'parts: while let Some(more) = rest {
-        let (front, behind) = cut(more, byte);
+        let (front, behind) = cut(more, ' ');
+        push_untabbed(&mut out, front)?;
+        rest = behind;
+    }
+    Ok(out)
+}
+
+/// Appends the text without its tabs.
+fn push_untabbed(out: &mut Text, text: &str) -> Result<(), NoMemory>
+    ensures { OnOk result (out.new ≡ out.old ++ filter (λ b. not (b == 9)) text.now) }
+{
+    let mut rest = Some(text);
+    'parts: while let Some(more) = rest {
+        let (front, behind) = cut(more, '\t');
         out.push_str(front)?;
         rest = behind;
-    }
-    Ok(out)
-}
-
-/// The parts between the bars that are not empty.
-pub(crate) fn written_parts(alloc: Global, text: &str) -> Result<Vec<&str>, AllocError>
-    ensures { IfOk result (λ v. AreParts text.now (map (λ part. part.now) v.items)) }
-{
-    let mut out = Vec::new(alloc);
-    let mut rest = Some(text);
-    'parts: while let Some(more) = rest {
-        let (part, behind) = cut(more, '|');
-        push_part(&mut out, part)?;
-        rest = behind;
-    }
-    Ok(out)
-}
-
-/// Appends the part, if it is not empty.
-fn push_part<'a>(out: &mut Vec<&'a str>, part: &'a str) -> Result<(), AllocError>
-    ensures { OnOk result (map (λ part. part.now) out.new.items ≡ map (λ part. part.now) out.old.items ++ kept (part.entry.now ∷ [])) }
-{
-    if !part.is_empty() {
-        out.push(part)?;
     }
     Ok(())
 }
 
-/// Whether one of the parts is `*`.
-pub(crate) fn has_star(written: &[&str]) -> bool
-    ensures star { result ≡ true → HasStar (map (λ part. part.now) written.now) }
-    ensures none { result ≡ false → NoStar (map (λ part. part.now) written.now) }
+/// How many parts between the bars are not empty. It takes no memory.
+pub(crate) fn count_parts(text: &str) -> usize
+    ensures { result ≡ count_by is_some_part (parts_of text.now) }
 {
-    for part in written {
-        if *part == "*" {
-            return true;
-        }
-    }
-    false
+    text.split('|').filter(|part| !part.is_empty()).count()
+}
+
+/// Whether one of the parts between the bars is `*`. It takes no memory.
+pub(crate) fn has_star(text: &str) -> bool
+    ensures { result ≡ list_any is_star (parts_of text.now) }
+{
+    text.split('|').any(|part| part == "*")
 }
 
 /// What stands behind the front, where the text begins with it.

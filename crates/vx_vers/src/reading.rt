@@ -1,25 +1,23 @@
-ghost use Rattle.std.specs.Prelude.{◌≡◌, ◌≢◌, ◌<◌, ◌^◌, ℕ, List, [], ◌∷◌, map, true, IfOk, IfErr};
-ghost use Rattle.std.specs.List.{AllByRecursion, list_all};
+ghost use Rattle.std.specs.Prelude.{◌≡◌, ◌≢◌, ◌<◌, ◌+◌, ◌^◌, ℕ, List, true, length, IfOk, IfErr, OnOk};
+ghost use Rattle.std.specs.List.{list_all};
 ghost use Rattle.vx_spec.specs.Runs.{is_solid};
 ghost use Rattle.vx_vers.specs.declared.constraints.Constraint.{Constraint};
 ghost use Rattle.vx_vers.specs.declared.fault.VersFault.{VersFault};
 ghost use Rattle.vx_vers.specs.declared.fault.VersFault.TheVariants as fault_of;
-ghost use Rattle.vx_text.specs.Escapes.{is_left};
 ghost use Rattle.vx_vers.specs.Again.{IsSameList};
 ghost use Rattle.vx_vers.specs.Grammar.{EachWithin, NoStar, SpellsList};
-ghost use Rattle.vx_vers.specs.Numbering.{IsEachReadAs};
-ghost use Rattle.vx_vers.specs.Reading.{constraint_read, IsPartReadAs, IsSolidReadAs, IsWrittenReadAs};
+ghost use Rattle.vx_vers.specs.Steps.Reading.{constraint_of_version, IsEachReadAs, IsPartReadAs, IsReadNext, IsSolidReadAs, IsWrittenReadAs, Refused, RefusesNext, written_in};
 ghost use Rattle.vx_vers.specs.Refusals.{Refuses};
 
 use crate::constraints::{Comparator, Constraint, Constraints};
 use crate::fault::VersFault;
 use crate::naming::cut_head;
-use crate::parting::{cut_sign, has_star, is_solid, without_blanks, written_parts};
-use crate::sorting::{Numbered, settle};
+use crate::parting::{count_parts, cut_sign, has_star, is_solid, without_blanks};
+use crate::sorting::settle;
 use crate::writing::write;
 use std::alloc::Global;
 use vx_scheme::{List, Scheme, Text, VersionFault};
-use vx_text::{EscapeFault, unescape};
+use vx_text::{EscapeFault, cut, is_left, unescape};
 
 /// Reads a VERS text of the scheme. Blanks are left out first, the head and the scheme's name may have any case, and
 /// empty parts beside `|` are skipped. `*` alone is the empty list, which stands for every version. Each refusal comes
@@ -49,54 +47,78 @@ fn read_solid<S: Scheme>(alloc: Global, text: &str) -> Result<Constraints<S>, Ve
     if name != S::scheme() {
         return Err(VersFault::Head);
     }
-    match written_parts(alloc, behind) {
-        Ok(written) => read_written::<S>(alloc, written.as_slice()),
-        Err(_) => Err(VersFault::NoMemory),
-    }
+    read_written::<S>(alloc, behind)
 }
 
-/// Reads the written constraints.
-fn read_written<S: Scheme>(alloc: Global, written: &[&str]) -> Result<Constraints<S>, VersFault>
-    ensures { IsWrittenReadAs S.order S.Spells S.IsWithin (map (λ part. part.now) written.now) result }
+/// Reads the written constraints, which stand between bars.
+fn read_written<S: Scheme>(alloc: Global, text: &str) -> Result<Constraints<S>, VersFault>
+    ensures { IsWrittenReadAs S.order S.Spells S.IsWithin (written_in text.now) result }
 {
-    if !has_star(written) {
-        return read_constraints::<S>(alloc, written);
+    let count = count_parts(text);
+    if !has_star(text) {
+        return read_constraints::<S>(alloc, count, text);
     }
-    if written.len() == 1 {
+    if count == 1 {
         Ok(Constraints::new(alloc))
     } else {
         Err(VersFault::StarNotAlone)
     }
 }
 
-/// Reads the written constraints, none of which is `*`.
-fn read_constraints<S: Scheme>(alloc: Global, written: &[&str]) -> Result<Constraints<S>, VersFault>
-    requires { NoStar (map (λ part. part.now) written.now) }
-    ensures { IsWrittenReadAs S.order S.Spells S.IsWithin (map (λ part. part.now) written.now) result }
+/// Reads so many written constraints, none of which is `*`.
+fn read_constraints<S: Scheme>(
+    alloc: Global,
+    count: usize,
+    text: &str,
+) -> Result<Constraints<S>, VersFault>
+    requires count { count ≡ length (written_in text.now) }
+    requires stars { NoStar (written_in text.now) }
+    ensures { IsWrittenReadAs S.order S.Spells S.IsWithin (written_in text.now) result }
 {
-    if written.is_empty() {
+    if count == 0 {
         return Err(VersFault::Constraint(1));
     }
-    match read_each::<S>(alloc, written) {
-        Ok(items) => settle::<S>(items),
+    match read_each::<S>(alloc, count, text) {
+        Ok(list) => settle::<S>(list),
         Err(fault) => Err(fault),
     }
 }
 
-/// The constraints of the texts, with their numbers.
+/// The constraints between the bars, in the order of the text, with room for so many.
 fn read_each<S: Scheme>(
     alloc: Global,
-    written: &[&str],
-) -> Result<List<Numbered<S::Version>>, VersFault>
-    ensures { IsEachReadAs S.Spells S.IsWithin (map (λ part. part.now) written.now) result }
+    count: usize,
+    text: &str,
+) -> Result<List<Constraint<S::Version>>, VersFault>
+    ensures { IsEachReadAs S.Spells S.IsWithin (written_in text.now) result }
 {
-    let mut items = List::new(alloc);
-    for (i, part) in written.iter().enumerate() {
-        let number = i as u64 + 1;
-        let constraint = read_part::<S>(alloc, number, part)?;
-        items.push(Numbered { number, constraint })?;
+    let mut list = List::with_room(alloc, count)?;
+    let mut rest = Some(text);
+    'parts: while let Some(more) = rest {
+        let (part, behind) = cut(more, '|');
+        push_next::<S>(alloc, &mut list, part)?;
+        rest = behind;
     }
-    Ok(items)
+    Ok(list)
+}
+
+/// Reads one text more, unless it is empty, and appends its constraint.
+fn push_next<S: Scheme>(
+    alloc: Global,
+    list: &mut List<Constraint<S::Version>>,
+    part: &str,
+) -> Result<(), VersFault>
+    requires { length list.old + 1 < 2 ^ 64 }
+    ensures ok { OnOk result (IsReadNext S.Spells S.IsWithin part.now list.old list.new) }
+    ensures err { IfErr result (λ fault. Refused (RefusesNext S.Spells S.IsWithin part.now list.old) fault) }
+{
+    if part.is_empty() {
+        return Ok(());
+    }
+    let number = list.len() as u64 + 1;
+    let constraint = read_part::<S>(alloc, number, part)?;
+    list.push(constraint)?;
+    Ok(())
 }
 
 /// The constraint of the text with this number.
@@ -112,37 +134,23 @@ fn read_part<S: Scheme>(
         return Err(VersFault::Constraint(number));
     }
     if is_left(raw.as_bytes()) {
-        return constraint_read(comparator, number, S::read(alloc, raw));
+        return constraint_of_version(comparator, number, S::read(alloc, raw));
     }
     match unescape(alloc, raw) {
-        Ok(plain) => constraint_read(comparator, number, S::read(alloc, plain.as_str())),
+        Ok(plain) => constraint_of_version(comparator, number, S::read(alloc, plain.as_str())),
         Err(EscapeFault::BadEscape(_)) => Err(VersFault::Constraint(number)),
         Err(EscapeFault::NotText) => Err(VersFault::Constraint(number)),
         Err(EscapeFault::NoMemory) => Err(VersFault::NoMemory),
     }
 }
 
-/// Whether each byte is one that is never escaped, so that the text stands for itself.
-fn is_left(text: &[u8]) -> bool
-    ensures { result ≡ list_all is_left text.now }
-{
-    text.iter().all(|byte| {
-        byte.is_ascii_alphanumeric()
-            || *byte == b'.'
-            || *byte == b'-'
-            || *byte == b'_'
-            || *byte == b'~'
-            || *byte == b':'
-    })
-}
-
 /// The constraint of a version that was read, or the fault of the constraint with this number.
-fn constraint_read<V: Drop>(
+fn constraint_of_version<V: Drop>(
     comparator: Comparator,
     number: u64,
     version: Result<V, VersionFault>,
 ) -> Result<Constraint<V>, VersFault>
-    ensures { result ≡ constraint_read comparator number version }
+    ensures { result ≡ constraint_of_version comparator number version }
 {
     match version {
         Ok(version) => Ok(Constraint {

@@ -1,11 +1,11 @@
-ghost use Rattle.std.specs.Prelude.{◌≡◌, IfOk, IsPermutation};
+ghost use Rattle.std.specs.Prelude.{◌≡◌, [], IfOk, IsPermutation, OnOk};
 ghost use Rattle.std.specs.List.Sorted.{IsSorted as IsInOrder};
-ghost use Rattle.vx_vers.specs.Numbering.{IsSettledAs, Once, constraints_of, least_next, least_twice, lower, numbered_cmp};
-ghost use Rattle.vx_vers.specs.Sorted.{IsSorted};
+ghost use Rattle.std.specs.Ordering.{is_lt};
+ghost use Rattle.vx_vers.specs.Steps.Numbering.{AreTaken, IsSettledAs, constraints_of, least_next, least_twice, lower, numbered_cmp, rises};
+ghost use Rattle.vx_vers.specs.Sorted.{IsSorted, version_cmp};
 
 use crate::constraints::{Constraint, Constraints};
 use crate::fault::VersFault;
-use std::alloc::{AllocError, Global};
 use std::cmp::Ordering;
 use vx_scheme::{List, NoMemory, Scheme};
 
@@ -16,32 +16,80 @@ pub(crate) struct Numbered<V> {
     pub(crate) constraint: Constraint<V>,
 }
 
-/// Sorts numbered constraints into a list. `Duplicate` names the first whose version is order-equal to that of one with
-/// a lower number.
+/// Sorts constraints into a list. `Duplicate` names the first whose version is order-equal to that of an earlier one.
+/// Constraints that are in order already take no memory.
 pub(crate) fn settle<S: Scheme>(
-    items: List<Numbered<S::Version>>,
+    list: List<Constraint<S::Version>>,
 ) -> Result<Constraints<S>, VersFault>
-    requires { Once items }
-    ensures { IsSettledAs S.order items result }
+    ensures { IsSettledAs S.order list result }
 {
-    let sorted = sort_numbered::<S>(items.into_vec())?;
-    match first_twice::<S>(sorted.as_slice()) {
-        Some(number) => Err(VersFault::Duplicate(number)),
-        None => Ok(without_numbers::<S>(sorted)?),
+    if is_rising::<S>(list.as_slice()) {
+        Ok(Constraints::from_sorted(list))
+    } else {
+        settle_unsorted::<S>(list)
     }
 }
 
-/// The constraints by version, and order-equal ones by number.
-fn sort_numbered<S: Scheme>(
-    mut items: Vec<Numbered<S::Version>>,
-) -> Result<Vec<Numbered<S::Version>>, NoMemory>
-    ensures same { IfOk result (λ sorted. IsPermutation items.items sorted.items) }
-    ensures sorted { IfOk result (λ sorted. IsInOrder (numbered_cmp S.order) sorted.items) }
+/// Whether each constraint is below the next one.
+fn is_rising<S: Scheme>(list: &[Constraint<S::Version>]) -> bool
+    ensures { result ≡ rises S.order list.now }
 {
-    match items.sort_by(|a, b| compare_numbered::<S>(a, b)) {
-        Ok(()) => Ok(items),
-        Err(_) => Err(NoMemory),
+    let [first, rest @ ..] = list else {
+        return true;
+    };
+    let mut before = first;
+    for constraint in rest {
+        if !is_below::<S>(before, constraint) {
+            return false;
+        }
+        before = constraint;
     }
+    true
+}
+
+fn is_below<S: Scheme>(a: &Constraint<S::Version>, b: &Constraint<S::Version>) -> bool
+    ensures { result ≡ is_lt (version_cmp S.order a.now b.now) }
+{
+    matches!(S::compare(&a.version, &b.version), Ordering::Less)
+}
+
+/// Sorts constraints into a list, in the room that they have.
+fn settle_unsorted<S: Scheme>(
+    list: List<Constraint<S::Version>>,
+) -> Result<Constraints<S>, VersFault>
+    ensures { IsSettledAs S.order list result }
+{
+    let mut room = list;
+    let numbered = take_all(&mut room)?;
+    let sorted = sort_numbered::<S>(numbered.into_vec());
+    match first_twice::<S>(sorted.as_slice()) {
+        Some(number) => Err(VersFault::Duplicate(number)),
+        None => Ok(put_back::<S>(room, sorted)?),
+    }
+}
+
+/// Takes the constraints off, from the last one to the first, and numbers them by their places.
+fn take_all<V: Drop>(list: &mut List<Constraint<V>>) -> Result<List<Numbered<V>>, NoMemory>
+    ensures taken { IfOk result (λ items. AreTaken list.old [] items) }
+    ensures empty { OnOk result (list.new ≡ []) }
+{
+    let mut items = List::with_room(list.alloc(), list.len())?;
+    'items: loop {
+        let number = list.len() as u64;
+        let Some(constraint) = list.pop() else {
+            return Ok(items);
+        };
+        items.push(Numbered { number, constraint })?;
+    }
+}
+
+/// The constraints by version, and order-equal ones by number. It takes no memory.
+fn sort_numbered<S: Scheme>(mut items: Vec<Numbered<S::Version>>) -> Vec<Numbered<S::Version>>
+    ensures same { IsPermutation items.items result.items }
+    ensures sorted { IsInOrder (numbered_cmp S.order) result.items }
+{
+    items.sort_unstable_by(|a, b| compare_numbered::<S>(a, b));
+    items
 }
 
 fn compare_numbered<S: Scheme>(a: &Numbered<S::Version>, b: &Numbered<S::Version>) -> Ordering
@@ -92,23 +140,18 @@ fn lower(least: Option<u64>, number: u64) -> u64
     }
 }
 
-/// The list of constraints that are sorted.
-fn without_numbers<S: Scheme>(
+/// The list of constraints that are sorted, put into an empty list that may have room for them.
+fn put_back<S: Scheme>(
+    room: List<Constraint<S::Version>>,
     sorted: Vec<Numbered<S::Version>>,
-) -> Result<Constraints<S>, AllocError>
-    requires { IsSorted S.order (constraints_of sorted.items) }
+) -> Result<Constraints<S>, NoMemory>
+    requires empty { room ≡ [] }
+    requires sorted { IsSorted S.order (constraints_of sorted.items) }
     ensures { IfOk result (λ list. list ≡ constraints_of sorted.items) }
 {
-    let alloc = *sorted.allocator();
-    let plain = sorted
-        .into_iter()
-        .map(|item| constraint_of(item))
-        .collect(alloc)?;
-    Ok(Constraints::from_sorted(List::from_vec(plain)))
-}
-
-fn constraint_of<V: Drop>(item: Numbered<V>) -> Constraint<V>
-    ensures { result ≡ item.constraint }
-{
-    item.constraint
+    let mut list = room;
+    for item in sorted {
+        list.push(item.constraint)?;
+    }
+    Ok(Constraints::from_sorted(list))
 }

@@ -1,16 +1,18 @@
-ghost use Rattle.std.specs.Prelude.{◌≡◌, ◌++◌, ◌≢◌, [], OnOk, OnErr, map, codes};
+ghost use Rattle.std.specs.Prelude.{◌≡◌, ◌++◌, OnOk, OnErr, map, codes};
 ghost use Rattle.std.specs.List.{join_with_byte};
 ghost use Rattle.vx_scheme.specs.Names.{text_of};
 ghost use Rattle.vx_text.specs.Escapes.{escaped};
 ghost use Rattle.vx_vers.specs.Again.{EachWritable, IsWritable, SpellsSame};
-ghost use Rattle.vx_vers.specs.Texts.{sign, bar_before, constraint_text, constraints_text, vers_text};
+ghost use Rattle.vx_vers.specs.Steps.Writing.{Extends, bar_before};
+ghost use Rattle.vx_vers.specs.Texts.{sign, constraint_text, constraints_text, vers_text};
 
 use crate::constraints::{Comparator, Constraint, Constraints};
 use vx_scheme::{NoMemory, Scheme, Text};
-use vx_text::escape;
+use vx_text::{escape, is_left};
 
 fn push_sign(out: &mut Text, comparator: Comparator) -> Result<(), NoMemory>
-    ensures { OnOk result (out.new ≡ out.old ++ sign comparator) }
+    ensures ok { OnOk result (out.new ≡ out.old ++ sign comparator) }
+    ensures err { OnErr result (out.new ≡ out.old) }
 {
     match comparator {
         Comparator::Equal => Ok(()),
@@ -23,21 +25,36 @@ fn push_sign(out: &mut Text, comparator: Comparator) -> Result<(), NoMemory>
 }
 
 fn push_bar(out: &mut Text, i: usize) -> Result<(), NoMemory>
-    ensures { OnOk result (out.new ≡ out.old ++ bar_before i) }
+    ensures ok { OnOk result (out.new ≡ out.old ++ bar_before i) }
+    ensures err { OnErr result (out.new ≡ out.old) }
 {
     if i == 0 { Ok(()) } else { out.push_str("|") }
 }
 
-fn push_version<S: Scheme>(
-    out: &mut Text,
-    version: &S::Version,
-    plain: &mut Text,
-) -> Result<(), NoMemory>
+/// Appends the normal text of the version, escaped. It is written in place, and once more only where a byte of it must
+/// be escaped.
+fn push_version<S: Scheme>(out: &mut Text, version: &S::Version) -> Result<(), NoMemory>
     ensures text { OnOk result (out.new ≡ out.old ++ escaped (S.normal version.now)) }
     ensures version { OnOk result (IsWritable S.IsVersion S.IsWithin S.normal version.now) }
+    ensures err { OnErr result (out.new ≡ out.old) }
 {
-    plain.cut(0);
-    S::write(version, plain)?;
+    let start = out.as_str().len();
+    S::write(version, out)?;
+    if is_left(&out.as_str().as_bytes()[start..]) {
+        return Ok(());
+    }
+    out.cut(start);
+    push_escaped::<S>(out, version)
+}
+
+/// Appends the normal text of the version, escaped.
+fn push_escaped<S: Scheme>(out: &mut Text, version: &S::Version) -> Result<(), NoMemory>
+    ensures text { OnOk result (out.new ≡ out.old ++ escaped (S.normal version.now)) }
+    ensures version { OnOk result (IsWritable S.IsVersion S.IsWithin S.normal version.now) }
+    ensures err { OnErr result (out.new ≡ out.old) }
+{
+    let mut plain = Text::new(out.alloc());
+    S::write(version, &mut plain)?;
     let text = plain.as_str();
     escape(text, out)
 }
@@ -45,23 +62,23 @@ fn push_version<S: Scheme>(
 fn push_constraint<S: Scheme>(
     out: &mut Text,
     constraint: &Constraint<S::Version>,
-    plain: &mut Text,
 ) -> Result<(), NoMemory>
     ensures text { OnOk result (out.new ≡ out.old ++ constraint_text S.normal constraint.now) }
     ensures version { OnOk result (IsWritable S.IsVersion S.IsWithin S.normal constraint.now.version) }
+    ensures err { OnErr result (Extends out.old out.new) }
 {
     push_sign(out, constraint.comparator)?;
-    push_version::<S>(out, &constraint.version, plain)
+    push_version::<S>(out, &constraint.version)
 }
 
 fn push_joined<S: Scheme>(out: &mut Text, list: &[Constraint<S::Version>]) -> Result<(), NoMemory>
     ensures text { OnOk result (out.new ≡ out.old ++ join_with_byte 124 (map (constraint_text S.normal) list.now)) }
     ensures versions { OnOk result (EachWritable S.IsVersion S.IsWithin S.normal list.now) }
+    ensures err { OnErr result (Extends out.old out.new) }
 {
-    let mut plain = Text::new(out.alloc());
     for (i, constraint) in list.iter().enumerate() {
         push_bar(out, i)?;
-        push_constraint::<S>(out, constraint, &mut plain)?;
+        push_constraint::<S>(out, constraint)?;
     }
     Ok(())
 }
@@ -72,6 +89,7 @@ fn push_constraints<S: Scheme>(
 ) -> Result<(), NoMemory>
     ensures text { OnOk result (out.new ≡ out.old ++ constraints_text S.normal list.now) }
     ensures versions { OnOk result (EachWritable S.IsVersion S.IsWithin S.normal list.now) }
+    ensures err { OnErr result (Extends out.old out.new) }
 {
     match list {
         [] => out.push_str("*"),
@@ -80,23 +98,39 @@ fn push_constraints<S: Scheme>(
 }
 
 fn push_head<S: Scheme>(out: &mut Text) -> Result<(), NoMemory>
-    ensures { OnOk result (out.new ≡ out.old ++ (codes "vers:" ++ text_of S.name)) }
+    ensures text { OnOk result (out.new ≡ out.old ++ (codes "vers:" ++ text_of S.name)) }
+    ensures err { OnErr result (Extends out.old out.new) }
 {
     out.push_str("vers:")?;
     out.push_str(S::scheme().name_text())
 }
 
+/// Appends the printed text, or the front of it where no memory was found.
+fn push_list<S: Scheme>(out: &mut Text, list: &[Constraint<S::Version>]) -> Result<(), NoMemory>
+    ensures text { OnOk result (out.new ≡ out.old ++ vers_text S.name S.normal list.now) }
+    ensures versions { OnOk result (EachWritable S.IsVersion S.IsWithin S.normal list.now) }
+    ensures err { OnErr result (Extends out.old out.new) }
+{
+    push_head::<S>(out)?;
+    out.push_str("/")?;
+    push_constraints::<S>(out, list)
+}
+
 /// Appends the printed text of the list: `vers:`, the scheme's name, `/` and the constraints parted by `|`, each with
 /// its version's normal text escaped; `*` for the empty list. The text spells a list with the same comparators and
-/// order-equal versions. A refused call leaves the text as it was.
+/// order-equal versions. A refused call leaves the text as it was. It takes no memory but for `out`, and for a version
+/// whose normal text has a byte that must be escaped.
 pub fn write<S: Scheme>(list: &Constraints<S>, out: &mut Text) -> Result<(), NoMemory>
     ensures ok { OnOk result (out.new ≡ out.old ++ vers_text S.name S.normal list.now) }
     ensures spells { OnOk result (SpellsSame S.name S.order S.Spells S.IsWithin (vers_text S.name S.normal list.now) list.now) }
     ensures err { OnErr result (out.new ≡ out.old) }
 {
-    let mut text = Text::new(out.alloc());
-    push_head::<S>(&mut text)?;
-    text.push_str("/")?;
-    push_constraints::<S>(&mut text, list.as_slice())?;
-    out.push_str(text.as_str())
+    let start = out.as_str().len();
+    match push_list::<S>(out, list.as_slice()) {
+        Ok(()) => Ok(()),
+        Err(refused) => {
+            out.cut(start);
+            Err(refused)
+        }
+    }
 }

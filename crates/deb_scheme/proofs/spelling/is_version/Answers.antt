@@ -1,6 +1,6 @@
 use Rattle.std.proofs.Common.{refl}
 use Rattle.deb_scheme.specs.Spelling.{version_of}
-use Rattle.deb_scheme.specs.Written.{parts}
+use Rattle.deb_scheme.specs.Steps.Written.{parts}
 use Rattle.deb_scheme.proofs.Cutting.{apart_joined, apart_form, written_tests}
 use Rattle.deb_scheme.proofs.spelling.is_version.Goals as goal
 

@@ -1,7 +1,7 @@
 use Rattle.std.proofs.Common.{rules, tests, lit<}
 use Rattle.std.proofs.lemmas.Iterator.Search.{all_from_yields_List}
 use Rattle.std.proofs.lemmas.Iterator.Splits.{YieldsList-from_str_split}
-use Rattle.npm_range.specs.Partials.{is_number}
+use Rattle.npm_range.specs.Reading.{is_number}
 use Rattle.npm_range.proofs.partials.all_numbers.Goals as goal
 
 pub returns : goal.returns

@@ -2,7 +2,7 @@ use Rattle.std.proofs.Common.{◌≡◌, ◌+◌, arith, eqb, ltb, ℕ, ◌∙�
 use Rattle.std.specs.List.{count_by, list_all}
 use Rattle.std.proofs.lemmas.List.Splits.{length-slice_split}
 use Rattle.std.proofs.lemmas.Bool.Decides.{nat_tests}
-use Rattle.npm_range.specs.Partials.{is_number, numbers}
+use Rattle.npm_range.specs.Reading.{is_number, numbers}
 use Rattle.npm_range.proofs.partials.is_short.Goals as goal
 
 less_four : (n : ℕ) → ltb n 3 ≡ ltb (n + 1) 4

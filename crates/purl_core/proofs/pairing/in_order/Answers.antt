@@ -1,6 +1,6 @@
 use Rattle.std.proofs.Common.{ap, sym, subst, map, List, ℕ, string_bytes}
 use Rattle.purl_core.specs.Value.{IsAboveLast, pair_view}
-use Rattle.purl_core.specs.Pairing.{entry_view}
+use Rattle.purl_core.specs.Steps.Pairing.{entry_view}
 use Rattle.purl_core.proofs.Ascending.{above_taken}
 use Rattle.purl_core.proofs.pairing.in_order.Goals as goal
 

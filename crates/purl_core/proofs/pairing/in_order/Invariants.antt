@@ -1,6 +1,6 @@
 use Rattle.std.proofs.Common.{◌≡◌, ◌++◌, map, length}
 use Rattle.purl_core.specs.Value.{pair_view}
-use Rattle.purl_core.specs.Pairing.{entry_view}
+use Rattle.purl_core.specs.Steps.Pairing.{entry_view}
 use Rattle.purl_core.proofs.pairing.in_order.Given as goal
 
 abbrev pub invariant-entries : goal.invariant-entries

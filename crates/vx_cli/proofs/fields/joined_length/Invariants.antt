@@ -3,4 +3,4 @@ use Rattle.vx_cli.proofs.Joined.{IsCounted}
 use Rattle.vx_cli.proofs.fields.joined_length.Given as goal
 
 abbrev pub invariant-loop-field : goal.invariant-loop-field
-invariant-loop-field l = IsCounted l.total l.field-index l.field-items
+invariant-loop-field l = IsCounted (λ field. field.now) l.total l.field-index l.fields

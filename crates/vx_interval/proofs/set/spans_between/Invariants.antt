@@ -1,5 +1,5 @@
 use Rattle.std.proofs.Common.{◌≡◌, ◌++◌}
-use Rattle.vx_interval.specs.Sets.{spans_from}
+use Rattle.vx_interval.specs.Steps.Opened.{spans_from}
 use Rattle.vx_scheme.specs.Cuts.{spans_of}
 use Rattle.vx_interval.proofs.set.spans_between.Given as goal
 

@@ -7,7 +7,7 @@ use Rattle.vx_simplify.proofs.ListedLaws.{list_means}
 use Rattle.vx_simplify.proofs.listing.from_set.Goals as goal
 
 pub returns-clause-ok : goal.returns-clause-ok
-returns-clause-ok g c = c.in_ok-list.ensures ∙ (λ i. listed g.S.Scheme.order (c.starts_in-starts.ensures i) (c.into_cuts-cuts.ensures.cuts i))
+returns-clause-ok g c = c.in_ok-list.ensures ∙ (λ i. listed g.S.Scheme.order (c.starts_in-starts.ensures.starts i) (c.into_cuts-cuts.ensures.cuts i))
 
 pub returns-clause-members : goal.returns-clause-members
 returns-clause-members g c v =

@@ -9,7 +9,7 @@ use Rattle.vx_translate.proofs.forward.translate.Goals as goal
 pub returns-in-Err-Empty-clause-empty : goal.returns-in-Err-Empty-clause-empty
 returns-in-Err-Empty-clause-empty g c = λ _.
     let none : c.in_ok-set.set ≡ [] = search rules in
-    holds_none g.met.N.Scheme.total g.met.N.Native.ranges c.args.domain c.args.text.now
+    holds_none g.N.Scheme g.N.Native g.met.N.Scheme.total g.met.N.Native.ranges c.args.domain c.args.text.now
     (record {
       bounds = c.in-Ok.bounds;
       made = c.in-Ok.ensures.ok;
@@ -19,8 +19,8 @@ returns-in-Err-Empty-clause-empty g c = λ _.
 pub returns-clause-members : goal.returns-clause-members
 returns-clause-members g c =
     let s = g.N.Scheme in
-    let translated : Translates s.order s.name s.normal (g.N.Native.Offers c.args.domain) (g.N.Native.Makes c.args.domain) c.args.text.now c.write.new.out = search rules in
+    let translated : Translates s g.N.Native c.args.domain c.args.text.now c.write.new.out = search rules in
     let is : c.in-Ok-from_set.list ≡ list_of s.order translated.spans = search rules in
     let spells : SpellsSame s.name s.order s.Spells s.IsWithin c.write.new.out c.in-Ok-from_set.list = search rules in
-    holds_same g.met.N.Scheme.total g.met.N.Native.ranges c.args.domain s.name s.Spells s.IsWithin c.args.text.now c.write.new.out translated.bounds translated.spans translated.made translated.joined translated.some
+    holds_same s g.N.Native g.met.N.Scheme.total g.met.N.Native.ranges c.args.domain c.args.text.now c.write.new.out translated.bounds translated.spans translated.made translated.joined translated.some
     (subst (SpellsSame s.name s.order s.Spells s.IsWithin c.write.new.out) is spells)

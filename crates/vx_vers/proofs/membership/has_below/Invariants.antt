@@ -1,5 +1,5 @@
 use Rattle.std.proofs.Common.{◌≡◌, drop}
-use Rattle.vx_vers.specs.Passing.{holds_below}
+use Rattle.vx_vers.specs.Steps.Passing.{holds_below}
 use Rattle.vx_vers.proofs.membership.has_below.Given as goal
 
 abbrev pub invariant-loop-constraint : goal.invariant-loop-constraint

@@ -1,20 +1,19 @@
-use Rattle.std.proofs.Common.{◌≡◌, ◌≢◌, ◌==◌, [], ◌∷◌, Bool, false, Bor, List, ℕ, length, map}
-use Rattle.vx_vers.proofs.ReadLaws.{faulty, read_once, settled}
+use Rattle.std.proofs.Common.{◌≡◌, [], ◌∷◌, ◌∙◌, List, ℕ, ap, sym, inl, refl, length, arith}
+use Rattle.vx_vers.specs.Steps.Reading.{written_in}
+use Rattle.vx_vers.proofs.ReadLaws.{faulty, settled}
 use Rattle.vx_vers.proofs.reading.read_constraints.Goals as goal
 
-abbrev texts : List (Bor (List ℕ)) → List (List ℕ)
-texts xs = map (λ (part : Bor (List ℕ)). part.now) xs
+no_texts : (texts : List (List ℕ)) → length texts ≡ 0 → texts ≡ []
+no_texts [] none = refl
+no_texts (text ∷ texts) none = absurd (omega arith)
 
-some_texts : (xs : List (Bor (List ℕ))) (empty : Bool) → empty ≡ (length xs == 0) → empty ≡ false → texts xs ≢ []
-some_texts [] empty is other = absurd (cc)
-some_texts (x ∷ xs) empty is other = λ e. cc
-
-pub settle-requires : goal.settle-requires
-settle-requires g c = read_once g.S.Scheme.Spells g.S.Scheme.IsWithin (texts c.args.written.now) c.in-Ok.items c.in-Ok.ensures
+pub returns-then-count-eq0 : goal.returns-then-count-eq0
+returns-then-count-eq0 g c = λ _. inl (no_texts (written_in c.args.text.now) (sym c.requires.count ∙ c.if-count-eq0.true), refl)
 
 pub returns-in-Ok : goal.returns-in-Ok
 returns-in-Ok g c =
-    settled g.S.Scheme.Spells g.S.Scheme.IsWithin g.S.Scheme.order (texts c.args.written.now) c.in-Ok.items c.settle.result (some_texts c.args.written.now c.is_empty.result c.is_empty.ensures c.if-is_empty.false) c.requires c.in-Ok.ensures c.settle.ensures
+    let texts = written_in c.args.text.now in
+    settled g.S.Scheme.Spells g.S.Scheme.IsWithin g.S.Scheme.order texts c.in-Ok.list c.settle.result (λ e. c.if-count-eq0.false (c.requires.count ∙ ap length e)) c.requires.stars c.in-Ok.ensures.0 c.in-Ok.ensures.1 c.settle.ensures
 
 pub returns-in-Err : goal.returns-in-Err
-returns-in-Err g c = faulty g.S.Scheme.Spells g.S.Scheme.IsWithin g.S.Scheme.order (texts c.args.written.now) c.in-Err.fault c.requires c.in-Err.ensures
+returns-in-Err g c = faulty g.S.Scheme.Spells g.S.Scheme.IsWithin g.S.Scheme.order (written_in c.args.text.now) c.in-Err.fault c.requires.stars c.in-Err.ensures

@@ -1,7 +1,17 @@
-use Rattle.std.proofs.Common.{map, take}
-use Rattle.vx_vers.specs.Numbering.{AreRead}
+use Rattle.std.proofs.Common.{◌≤◌, ◌+◌, length}
+use Rattle.std.specs.Option.{option_copied}
+use Rattle.vx_text.proofs.Joins.{parts_behind}
+use Rattle.vx_vers.specs.Grammar.{kept_parts}
+use Rattle.vx_vers.specs.Steps.Reading.{IsReadUpTo, written_in}
+use Rattle.vx_vers.proofs.PartLaws.{left}
 use Rattle.vx_vers.proofs.reading.read_each.Given as goal
 
--- the texts so far are read
-abbrev pub invariant-loop-i : goal.invariant-loop-i
-invariant-loop-i g l = AreRead g.S.Scheme.Spells g.S.Scheme.IsWithin 1 (map (λ part. part.now) (take l.i l.written)) l.items
+-- the texts so far are read, and no more constraints stand in the list than bytes in front of what is left
+abbrev pub invariant-parts : goal.invariant-parts
+invariant-parts g l = record {
+  read : IsReadUpTo g.S.Scheme.Spells g.S.Scheme.IsWithin (written_in l.fn.text) (kept_parts (parts_behind 124 (option_copied l.rest))) l.list;
+  room : length l.list + left (option_copied l.rest) ≤ length l.fn.text + 1;
+}
+
+abbrev pub decreases-parts : goal.decreases-parts
+decreases-parts g l = left (option_copied l.rest)

@@ -1,7 +1,8 @@
-use Rattle.std.proofs.Common.{◌∙◌, List, ℕ, Bor, rules, map, sym, subst, inl, refl}
+use Rattle.std.proofs.Common.{◌∙◌, rules, sym, subst, inl, refl}
 use Rattle.vx_scheme.specs.contracts.name.SchemeName.{the_type}
 use Rattle.vx_vers.specs.Heads.{HasHead, solid}
-use Rattle.vx_vers.specs.Reading.{IsWrittenReadAs}
+use Rattle.vx_vers.specs.Steps.Reading.{written_in}
+use Rattle.vx_vers.proofs.PartLaws.{split_parts}
 use Rattle.vx_vers.proofs.SolidLaws.{no_head, other_head, read_whole, same_solid}
 use Rattle.vx_vers.proofs.reading.read_solid.Goals as goal
 use denote.Enum.Bare.{differs_false, differs_true}
@@ -13,15 +14,13 @@ pub returns-then-ne : goal.returns-then-ne
 returns-then-ne g c = λ cause.
     inl (refl, other_head c.args.text.now _ c.in-Some.name g.S.Scheme.name c.requires c.in-Some.ensures.head (λ e. differs_true the_type c.in-Some.name c.scheme.result (sym c.ne.ensures ∙ c.if-ne.true) (e ∙ sym c.scheme.ensures)))
 
-pub returns-in-Ok : goal.returns-in-Ok
-returns-in-Ok g c =
+pub returns : goal.returns
+returns g c =
     let text = c.args.text.now in
     let behind = c.in-Some.behind.now in
-    let written = map (λ (part : Bor (List ℕ)). part.now) c.in-Ok.written.items in
     let is = differs_false the_type (search rules) c.in-Some.name c.scheme.result (sym c.ne.ensures ∙ c.if-ne.false) ∙ c.scheme.ensures in
     let head : HasHead text g.S.Scheme.name behind =
     subst (λ t. HasHead t g.S.Scheme.name behind) (same_solid text c.requires)
     (subst (λ name. HasHead (solid text) name behind) is
     (subst (HasHead (solid text) c.in-Some.name) (same_solid behind (c.in-Some.ensures.behind c.requires)) c.in-Some.ensures.head)) in
-    read_whole g.S.Scheme.name g.S.Scheme.order g.S.Scheme.Spells g.S.Scheme.IsWithin text behind written c.read_written.result head c.in-Ok.ensures
-    (subst (λ (xs : List (Bor (List ℕ))). IsWrittenReadAs g.S.Scheme.order g.S.Scheme.Spells g.S.Scheme.IsWithin (map (λ (part : Bor (List ℕ)). part.now) xs) c.read_written.result) c.as_slice.ensures.value c.read_written.ensures)
+    read_whole g.S.Scheme.name g.S.Scheme.order g.S.Scheme.Spells g.S.Scheme.IsWithin text behind (written_in behind) c.read_written.result head (split_parts behind (written_in behind) refl) c.read_written.ensures

@@ -1,5 +1,5 @@
 use Rattle.std.proofs.Common.{◌≡◌, drop}
-use Rattle.vx_vers.specs.Numbering.{least_behind, least_twice}
+use Rattle.vx_vers.specs.Steps.Numbering.{least_behind, least_twice}
 use Rattle.vx_vers.proofs.sorting.first_twice.Given as goal
 
 -- what is left, with the least so far, gives the least of all

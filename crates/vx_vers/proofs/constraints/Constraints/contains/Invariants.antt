@@ -1,6 +1,6 @@
 use Rattle.std.proofs.Common.{◌≡◌, drop}
 use Rattle.vx_vers.specs.Meaning.{meaning}
-use Rattle.vx_vers.specs.Passing.{meaning_from}
+use Rattle.vx_vers.specs.Steps.Passing.{meaning_from}
 use Rattle.vx_vers.proofs.constraints.Constraints.contains.Given as goal
 
 -- the constraints that are left say whether the version is in

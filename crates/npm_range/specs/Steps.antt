@@ -1,0 +1,4 @@
+pub mod Bars
+pub mod Numbers
+pub mod Partials
+pub mod Pushed

@@ -1,7 +1,0 @@
-use Rattle.std.proofs.Common.{◌≡◌, ◌++◌, map, drop}
-use Rattle.vx_text.specs.Escapes.{escaped}
-use Rattle.purl_core.specs.Written.{behind}
-use Rattle.purl_core.proofs.writing.push_behind.Given as goal
-
-abbrev pub invariant-loop-part : goal.invariant-loop-part
-invariant-loop-part l = l.out ++ behind 47 (map escaped (drop l.part-index l.parts)) ≡ l.initial.out ++ behind 47 (map escaped l.parts)

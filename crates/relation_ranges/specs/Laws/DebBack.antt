@@ -1,0 +1,285 @@
+-- What Debian's range language promises of the way back: the text of spans holds what the spans hold.
+use Rattle.std.proofs.Common.{◌≡◌, ◌≢◌, ◌&&◌, ◌||◌, not, ℕ, Bool, true, false, List, [], ◌∷◌, refl, sym, ap, ◌∙◌, subst, inl, inr, Option, Some, None, Ok}
+use Rattle.std.specs.Prelude.{⊤}
+use Rattle.std.specs.List.{AllByRecursion}
+use Rattle.std.specs.Ordering.{is_eq, is_lt, is_le, is_gt, is_ge}
+use Rattle.std.specs.Cmp.{alike_right}
+use Rattle.std.specs.declared.cmp.Ordering.{Ordering}
+use Rattle.std.specs.declared.cmp.Ordering.TheVariants as ordering
+use Rattle.std.proofs.Math.Bool.{or-false, and-true}
+use Rattle.std.proofs.lemmas.Bool.{cases_Bool}
+use Rattle.vx_spec.specs.Ascending.{IsAscending}
+use Rattle.vx_scheme.specs.declared.domain.Domain.{Domain}
+use Rattle.vx_scheme.specs.declared.span.Cut.{Cut}
+use Rattle.vx_scheme.specs.declared.span.Span.{Span}
+use Rattle.vx_scheme.specs.Cuts.{stands_below, cut_below, cut_cmp, in_spans, cuts_of, starts_of, spans_of}
+use Rattle.vx_scheme.specs.Native.{BackLaws, PrintsSpans, IsSpans, EachVersion, by_domain}
+use Rattle.vx_scheme.proofs.CutLaws.{cut_below-lower}
+use Rattle.deb_scheme.specs.Version.{Fields}
+use Rattle.deb_scheme.specs.Spelling.{IsVersion}
+use Rattle.deb_scheme.specs.Order.{order_of, order_total}
+use Rattle.relation_ranges.specs.Deb.Reading.{DebRelation, Reads}
+use Rattle.relation_ranges.specs.Deb.Holds.{is_so, holds}
+use Rattle.vx_range.specs.Making.{terms_hold}
+use Rattle.vx_range.specs.Spans.{is_point}
+use Rattle.vx_range.specs.Laws.Points as points
+use Rattle.relation_ranges.specs.Range.{relation_holds}
+use Rattle.relation_ranges.specs.Deb.Range.{IsRange, In}
+use Rattle.relation_ranges.specs.Laws.DebRange.{one_reads}
+use Rattle.relation_ranges.specs.Deb.Back.{range_text, lower_operator, upper_operator, lower_relation, upper_relation, upper_end, gap_end, terms_behind, single_terms, back_terms, back}
+use Rattle.relation_ranges.specs.Laws.DebWritten.{TermIs, written_read}
+
+-- the relation holds of the version
+abbrev is_held : DebRelation → Fields → Bool
+is_held = relation_holds holds
+
+-- ---- truth values
+
+mid : (x bd be af : Bool) → (bd ≡ true → x ≡ true) → (be ≡ true → bd ≡ true) → (bd ≡ false → af ≡ true) → ((x && not bd) || (be && af)) ≡ (x && ((not bd || be) && af))
+mid false false false af f g h = refl
+mid false false true af f g h = absurd (cc (g refl))
+mid false true be af f g h = absurd (cc (f refl))
+mid true false false af f g h = sym (h refl)
+mid true false true af f g h = absurd (cc (g refl))
+mid true true be af f g h = refl
+
+edge : (x bd be : Bool) → (bd ≡ true → x ≡ true) → (be ≡ true → bd ≡ true) → ((x && not bd) || be) ≡ (x && (not bd || be))
+edge false false false f g = refl
+edge false false true f g = absurd (cc (g refl))
+edge false true be f g = absurd (cc (f refl))
+edge true bd be f g = refl
+
+not_both : (a b : Bool) → (a ≡ true → b ≡ true) → b ≡ false → a ≡ false
+not_both false b f e = refl
+not_both true b f e = absurd (cc (f refl, e))
+
+equal_of : (o : Ordering) → is_eq o ≡ true → o ≡ ordering.Equal
+equal_of ordering.Less e = cc e
+equal_of ordering.Equal e = refl
+equal_of ordering.Greater e = cc e
+
+-- ---- bounds
+
+over_before : (bound v : Fields) → stands_below (order_of bound v) false ≡ is_ge (order_of v bound)
+over_before = points.over_before order_of order_total
+
+over_after : (bound v : Fields) → stands_below (order_of bound v) true ≡ is_gt (order_of v bound)
+over_after = points.over_after order_of order_total
+
+under_before : (bound v : Fields) → not (stands_below (order_of bound v) false) ≡ is_lt (order_of v bound)
+under_before = points.under_before order_of order_total
+
+under_after : (bound v : Fields) → not (stands_below (order_of bound v) true) ≡ is_le (order_of v bound)
+under_after = points.under_after order_of order_total
+
+lower_by : (after : Bool) (w v : Fields) → is_so (lower_operator after) (order_of v w) ≡ stands_below (order_of w v) after
+lower_by false w v = sym (over_before w v)
+lower_by true w v = sym (over_after w v)
+
+upper_by : (after : Bool) (w v : Fields) → is_so (upper_operator after) (order_of v w) ≡ not (stands_below (order_of w v) after)
+upper_by false w v = sym (under_before w v)
+upper_by true w v = sym (under_after w v)
+
+lower_says : (v : Fields) (cut : Cut Fields) → is_held (lower_relation cut) v ≡ cut_below order_of cut v
+lower_says v cut = lower_by cut.after cut.version v
+
+upper_says : (v : Fields) (cut : Cut Fields) → is_held (upper_relation cut) v ≡ not (cut_below order_of cut v)
+upper_says v cut = upper_by cut.after cut.version v
+
+lower_one : (v : Fields) (cut : Cut Fields) → (is_held (lower_relation cut) v || false) ≡ cut_below order_of cut v
+lower_one v cut = or-false _ ∙ lower_says v cut
+
+upper_one : (v : Fields) (cut : Cut Fields) → (is_held (upper_relation cut) v || false) ≡ not (cut_below order_of cut v)
+upper_one v cut = or-false _ ∙ upper_says v cut
+
+-- ---- behind an upper bound, with the cuts behind it
+
+-- whether the version is in what the terms behind the cut ask
+abbrev after_cut : Fields → Cut Fields → List (Cut Fields) → Bool
+after_cut v d [] = not (cut_below order_of d v)
+after_cut v d (e ∷ []) = not (cut_below order_of d v) || cut_below order_of e v
+after_cut v d (e ∷ f ∷ cuts) = (not (cut_below order_of d v) || cut_below order_of e v) && after_cut v f cuts
+
+-- the lower bound behind a gap, of which a hole has the version before it
+hole_says : (c d : Bool) (a b v : Fields) → ((not c && d) && is_eq (order_of a b)) ≡ true → is_gt (order_of v a) ≡ stands_below (order_of b v) d
+hole_says false true a b v is = ap is_gt (alike_right order_total a b v (equal_of (order_of a b) is)) ∙ sym (over_after b v)
+hole_says false false a b v is = absurd (cc is)
+hole_says true d a b v is = absurd (cc is)
+
+end_says : (v : Fields) (d e : Cut Fields) → is_held (gap_end d e) v ≡ cut_below order_of e v
+end_says v d e = elim (cases_Bool (is_point order_of d e)) [
+  | inl is ↦ rw is (hole_says d.after e.after d.version e.version v is)
+  | inr other ↦ rw other (lower_says v e)
+]
+
+-- the upper bound of a span, of which a point has the version before it
+point_end_says : (c d : Bool) (a b v : Fields) → ((not c && d) && is_eq (order_of a b)) ≡ true → is_so (upper_operator d) (order_of v a) ≡ not (stands_below (order_of b v) d)
+point_end_says false true a b v is = ap is_le (alike_right order_total a b v (equal_of (order_of a b) is)) ∙ sym (under_after b v)
+point_end_says false false a b v is = absurd (cc is)
+point_end_says true d a b v is = absurd (cc is)
+
+upper_end_says : (v : Fields) (before : Option (Cut Fields)) (d : Cut Fields) → is_held (upper_end before d) v ≡ not (cut_below order_of d v)
+upper_end_says v None d = upper_says v d
+upper_end_says v (Some c) d = elim (cases_Bool (is_point order_of c d)) [
+  | inl is ↦ rw is (point_end_says c.after d.after c.version d.version v is)
+  | inr other ↦ rw other (upper_says v d)
+]
+
+gap_says : (v : Fields) (before : Option (Cut Fields)) (d e : Cut Fields) → (is_held (upper_end before d) v || (is_held (gap_end d e) v || false)) ≡ (not (cut_below order_of d v) || cut_below order_of e v)
+gap_says v before d e = λ i. upper_end_says v before d i || (or-false _ ∙ end_says v d e) i
+
+behind_says : (v : Fields) (before : Option (Cut Fields)) (d : Cut Fields) (cuts : List (Cut Fields)) → terms_hold is_held (terms_behind before (Some d) (spans_of false cuts)) v ≡ after_cut v d cuts
+behind_says v before d [] = and-true _ ∙ or-false _ ∙ upper_end_says v before d
+behind_says v before d (e ∷ []) = and-true _ ∙ gap_says v before d e
+behind_says v before d (e ∷ f ∷ cuts) = λ i. gap_says v before d e i && behind_says v (Some e) f cuts i
+
+-- the spans between the cuts
+abbrev inside : Fields → List (Cut Fields) → Bool
+inside v [] = false
+inside v (e ∷ []) = cut_below order_of e v
+inside v (e ∷ f ∷ cuts) = (cut_below order_of e v && not (cut_below order_of f v)) || inside v cuts
+
+spans_say : (v : Fields) (cuts : List (Cut Fields)) → in_spans order_of (spans_of false cuts) v ≡ inside v cuts
+spans_say v [] = refl
+spans_say v (e ∷ []) = or-false _ ∙ and-true _
+spans_say v (e ∷ f ∷ cuts) = λ i. (cut_below order_of e v && not (cut_below order_of f v)) || spans_say v cuts i
+
+abbrev IsRising : List (Cut Fields) → Type 0
+IsRising cuts = IsAscending (cut_cmp order_of) cuts
+
+true_after : (v : Fields) (d : Cut Fields) (cuts : List (Cut Fields)) → IsRising (d ∷ cuts) → cut_below order_of d v ≡ false → after_cut v d cuts ≡ true
+true_after v d [] rising none = rw none refl
+true_after v d (e ∷ []) rising none = rw none refl
+true_after v d (e ∷ f ∷ cuts) rising none =
+    let further = not_both (cut_below order_of f v) (cut_below order_of d v) (cut_below-lower order_of order_total d f v rising.0.1.0) none in
+    rw none (true_after v f cuts rising.1.1 further)
+
+-- the open span, where x holds, up to d, and those behind
+spans_are : (v : Fields) (x : Bool) (d : Cut Fields) (cuts : List (Cut Fields)) → (cut_below order_of d v ≡ true → x ≡ true) → IsRising (d ∷ cuts)
+    → ((x && not (cut_below order_of d v)) || inside v cuts) ≡ (x && after_cut v d cuts)
+spans_are v x d [] above rising = or-false _
+spans_are v x d (e ∷ []) above rising =
+    edge x (cut_below order_of d v) (cut_below order_of e v) above (cut_below-lower order_of order_total d e v rising.0.0)
+spans_are v x d (e ∷ f ∷ cuts) above rising =
+    let lower = cut_below-lower order_of order_total d e v rising.0.0 in
+    let next = cut_below-lower order_of order_total e f v rising.1.0.0 in
+    let further : cut_below order_of d v ≡ false → after_cut v f cuts ≡ true = λ none. true_after v f cuts rising.1.1 (not_both (cut_below order_of f v) (cut_below order_of d v) (cut_below-lower order_of order_total d f v rising.0.1.0) none) in
+    ap (λ r. (x && not (cut_below order_of d v)) || r) (spans_are v (cut_below order_of e v) f cuts next rising.1.1)
+    ∙ mid x (cut_below order_of d v) (cut_below order_of e v) (after_cut v f cuts) above lower further
+
+-- ---- a single span
+
+point_by : (c d v : Fields) → order_of c d ≡ ordering.Equal → (stands_below (order_of c v) false && not (stands_below (order_of d v) true)) ≡ is_eq (order_of v c)
+point_by c d v same =
+    (λ i. over_before c v i && (under_after d v ∙ ap is_le (sym (alike_right order_total c d v same))) i) ∙ points.point_is (order_of v c)
+
+point_says : (c d : Bool) (a b v : Fields) → ((not c && d) && is_eq (order_of a b)) ≡ true
+    → (stands_below (order_of a v) c && not (stands_below (order_of b v) d)) ≡ is_eq (order_of v a)
+point_says false true a b v is = point_by a b v (equal_of (order_of a b) is)
+point_says false false a b v is = absurd (cc is)
+point_says true d a b v is = absurd (cc is)
+
+pair_says : (v : Fields) (c d : Cut Fields) → terms_hold is_held (single_terms (Some c) (Some d)) v ≡ (cut_below order_of c v && not (cut_below order_of d v))
+pair_says v c d = elim (cases_Bool (is_point order_of c d)) [
+  | inl is ↦ rw is (and-true _ ∙ or-false _ ∙ sym (point_says c.after d.after c.version d.version v is))
+  | inr other ↦ rw other (λ i. lower_one v c i && (and-true (is_held (upper_relation d) v || false) ∙ upper_one v d) i)
+]
+
+-- ---- all spans
+
+spans_hold : (v : Fields) (starts : Bool) (cuts : List (Cut Fields)) → IsRising cuts → spans_of starts cuts ≢ [] → in_spans order_of (spans_of starts cuts) v ≡ terms_hold is_held (back_terms (spans_of starts cuts)) v
+spans_hold v false [] rising some = absurd (some refl)
+spans_hold v false (c ∷ []) rising some = or-false _ ∙ and-true _ ∙ sym (and-true _ ∙ lower_one v c)
+spans_hold v false (c ∷ d ∷ []) rising some = or-false _ ∙ sym (pair_says v c d)
+spans_hold v false (c ∷ d ∷ e ∷ []) rising some =
+    ap (λ r. (cut_below order_of c v && not (cut_below order_of d v)) || r) (spans_say v (e ∷ []))
+    ∙ spans_are v (cut_below order_of c v) d (e ∷ []) (cut_below-lower order_of order_total c d v rising.0.0) rising.1
+    ∙ sym (λ i. lower_one v c i && behind_says v (Some c) d (e ∷ []) i)
+spans_hold v false (c ∷ d ∷ e ∷ f ∷ cuts) rising some =
+    ap (λ r. (cut_below order_of c v && not (cut_below order_of d v)) || r) (spans_say v (e ∷ f ∷ cuts))
+    ∙ spans_are v (cut_below order_of c v) d (e ∷ f ∷ cuts) (cut_below-lower order_of order_total c d v rising.0.0) rising.1
+    ∙ sym (λ i. lower_one v c i && behind_says v (Some c) d (e ∷ f ∷ cuts) i)
+spans_hold v true [] rising some = refl
+spans_hold v true (c ∷ []) rising some = or-false _ ∙ sym (and-true _ ∙ upper_one v c)
+spans_hold v true (c ∷ e ∷ []) rising some =
+    ap (λ r. not (cut_below order_of c v) || r) (spans_say v (e ∷ []))
+    ∙ spans_are v true c (e ∷ []) (λ _. refl) rising ∙ sym (behind_says v None c (e ∷ []))
+spans_hold v true (c ∷ e ∷ f ∷ cuts) rising some =
+    ap (λ r. not (cut_below order_of c v) || r) (spans_say v (e ∷ f ∷ cuts))
+    ∙ spans_are v true c (e ∷ f ∷ cuts) (λ _. refl) rising ∙ sym (behind_says v None c (e ∷ f ∷ cuts))
+
+-- the terms are of one relation or two, of versions
+end_is : (d e : Cut Fields) → IsVersion d.version → IsVersion e.version → IsVersion (gap_end d e).version
+end_is d e p q = elim (cases_Bool (is_point order_of d e)) [
+  | inl is ↦ rw is p
+  | inr other ↦ rw other q
+]
+
+-- the cut, where there is one, has a version
+abbrev BeforeIs : Option (Cut Fields) → Type 0
+BeforeIs None = ⊤
+BeforeIs (Some cut) = IsVersion cut.version
+
+upper_end_is : (before : Option (Cut Fields)) (d : Cut Fields) → BeforeIs before → IsVersion d.version → IsVersion (upper_end before d).version
+upper_end_is None d p q = q
+upper_end_is (Some c) d p q = elim (cases_Bool (is_point order_of c d)) [
+  | inl is ↦ rw is p
+  | inr other ↦ rw other q
+]
+
+behind_is : (before : Option (Cut Fields)) (d : Cut Fields) (cuts : List (Cut Fields)) → BeforeIs before → IsVersion d.version → EachVersion IsVersion (spans_of false cuts) → AllByRecursion TermIs (terms_behind before (Some d) (spans_of false cuts))
+behind_is before d [] p is each = (upper_end_is before d p is, tt)
+behind_is before d (e ∷ []) p is each = ((upper_end_is before d p is, end_is d e is each.0.0), tt)
+behind_is before d (e ∷ f ∷ cuts) p is each = ((upper_end_is before d p is, end_is d e is each.0.0), behind_is (Some e) f cuts each.0.0 each.0.1 each.1)
+
+pair_is : (c d : Cut Fields) → IsVersion c.version → IsVersion d.version → AllByRecursion TermIs (single_terms (Some c) (Some d))
+pair_is c d p q = elim (cases_Bool (is_point order_of c d)) [
+  | inl is ↦ rw is (p, tt)
+  | inr other ↦ rw other (p, (q, tt))
+]
+
+terms_are : (starts : Bool) (cuts : List (Cut Fields)) → EachVersion IsVersion (spans_of starts cuts) → AllByRecursion TermIs (back_terms (spans_of starts cuts))
+terms_are false [] each = tt
+terms_are false (c ∷ []) each = (each.0.0, tt)
+terms_are false (c ∷ d ∷ []) each = pair_is c d each.0.0 each.0.1
+terms_are false (c ∷ d ∷ e ∷ []) each = (each.0.0, behind_is (Some c) d (e ∷ []) each.0.0 each.0.1 each.1)
+terms_are false (c ∷ d ∷ e ∷ f ∷ cuts) each = (each.0.0, behind_is (Some c) d (e ∷ f ∷ cuts) each.0.0 each.0.1 each.1)
+terms_are true [] each = tt
+terms_are true (c ∷ []) each = (each.0.1, tt)
+terms_are true (c ∷ e ∷ []) each = behind_is None c (e ∷ []) tt each.0.1 each.1
+terms_are true (c ∷ e ∷ f ∷ cuts) each = behind_is None c (e ∷ f ∷ cuts) tt each.0.1 each.1
+
+-- ---- the law
+
+-- what is said of spans
+record IsPrinted (spans : List (Span Fields)) : Type 0 where
+  terms : AllByRecursion TermIs (back_terms spans)
+  members : (v : Fields) → in_spans order_of spans v ≡ terms_hold is_held (back_terms spans) v
+
+printed : (spans : List (Span Fields)) → IsSpans order_of spans → EachVersion IsVersion spans → IsPrinted spans
+printed spans is each =
+    let apart = is.in_order.apart in
+    let starts = starts_of spans in
+    let cuts = cuts_of spans in
+    subst IsPrinted apart (record {
+      terms = terms_are starts cuts (subst (EachVersion IsVersion) (sym apart) each);
+      members = λ v. spans_hold v starts cuts is.in_order.rising (subst (λ (s : List (Span Fields)). s ≢ []) (sym apart) is.some);
+    })
+
+prints : (domain : Domain) (spans : List (Span Fields)) (text : List ℕ) → IsSpans order_of spans → EachVersion IsVersion spans → back domain spans ≡ Ok text
+    → PrintsSpans order_of IsVersion (by_domain (λ _. ⊤) (λ _. ⊤) domain) IsRange In spans text
+prints domain spans text is each made =
+    let e : range_text (back_terms spans) ≡ text = cc made in
+    let said = printed spans is each in
+    let terms = back_terms spans in
+    let reads : Reads text terms = subst (λ t. Reads t terms) e (written_read terms said.terms) in
+    record {
+      range = (terms, reads);
+      members = λ v version within. (
+        λ held. said.members v ∙ ap (λ (all : List (List DebRelation)). terms_hold is_held all v) (one_reads text terms held.0 reads held.1) ∙ held.2,
+        λ held. (terms, reads, sym (said.members v) ∙ held),
+      );
+    }
+
+pub deb_backs : BackLaws order_of IsVersion (by_domain (λ _. ⊤) (λ _. ⊤)) IsRange In back
+deb_backs = record { backward = prints }

@@ -1,0 +1,92 @@
+use crate::deb::operators::{Operator, RelationSigns, operator_of};
+use crate::relations::Relations;
+use deb_scheme::{Deb, DebVersion, past_numeral};
+use std::alloc::Global;
+use vx_range::{Outcome, push_above, push_below, push_from, push_point, push_up_to};
+use vx_scheme::{Domain, NoMemory, Spans};
+
+impl Relations for Deb {
+    ghost use Rattle.std.specs.Prelude.{Some, ⊤};
+    ghost use Rattle.vx_scheme.specs.declared.domain.Domain.TheVariants as domain_of;
+    ghost use Rattle.vx_range.specs.declared.making.Outcome.TheVariants as made;
+    ghost use Rattle.vx_text.specs.Past.{first_past};
+    ghost use Rattle.deb_scheme.proofs.Bytes.{spelled_utf8};
+    ghost use Rattle.deb_scheme.proofs.PastLaws.{limits_agree};
+    ghost use Rattle.relation_ranges.specs.Deb.Operators.{bar};
+    ghost use Rattle.relation_ranges.specs.Deb.Reading.{HasSigns};
+    ghost use Rattle.relation_ranges.specs.Deb.Spans.{spans_of};
+    ghost use Rattle.relation_ranges.specs.Deb.Holds.{holds};
+    ghost use Rattle.relation_ranges.specs.Deb.Refusals.{outcome};
+    ghost use Rattle.relation_ranges.specs.Laws.DebTable.{one_operator, agrees};
+
+    type Operator = Operator;
+
+    type Signs = RelationSigns;
+
+    ghost Offers = { λ _. ⊤ };
+
+    ghost usual = { domain_of.All };
+
+    ghost bar = { Some bar };
+
+    ghost HasSigns = { HasSigns };
+
+    ghost first_past = { first_past };
+
+    ghost spans = { λ domain. spans_of };
+
+    ghost outcome = { outcome };
+
+    ghost holds = { holds };
+
+    ghost one_operator = { one_operator };
+
+    ghost utf8 = { spelled_utf8 };
+
+    ghost limits = { limits_agree };
+
+    ghost agrees = { agrees };
+
+    /// Both domains are offered: every version is in each.
+    fn offers(_domain: Domain) -> bool {
+        true
+    }
+
+    fn default_domain() -> Domain {
+        Domain::All
+    }
+
+    /// It is `|`.
+    fn bar() -> Option<u8> {
+        Some(b'|')
+    }
+
+    /// The operator that is written so.
+    fn operator(signs: &[u8]) -> Option<Operator> {
+        operator_of(signs)
+    }
+
+    /// Where the first run of digits begins that passes 2^128-1.
+    fn first_past(text: &[u8], at: usize) -> Option<usize> {
+        past_numeral(text, at)
+    }
+
+    /// Appends the span of the operator, the same in each domain.
+    fn push_spans(
+        alloc: Global,
+        operator: Operator,
+        version: DebVersion,
+        _domain: Domain,
+        marks: &mut u64,
+        out: &mut Spans<DebVersion>,
+    ) -> Result<Outcome, NoMemory> {
+        match operator {
+            Operator::Earlier => push_below(marks, version, out)?,
+            Operator::EarlierOrEqual => push_up_to(marks, version, out)?,
+            Operator::Equal => push_point::<Deb>(alloc, marks, version, out)?,
+            Operator::LaterOrEqual => push_from(marks, version, out)?,
+            Operator::Later => push_above(marks, version, out)?,
+        }
+        Ok(Outcome::Spans)
+    }
+}

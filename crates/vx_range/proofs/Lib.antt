@@ -1,0 +1,5 @@
+pub mod FoundLaws
+pub mod MadeLaws
+pub mod PieceFound
+pub mod PieceLaws
+pub mod PieceSteps

@@ -1,0 +1,12 @@
+-- What is found at the pieces so far.
+use Rattle.std.proofs.Common.{◌≡◌, map, take}
+use Rattle.vx_spec.specs.Each.{joined}
+use Rattle.vx_range.specs.Pieces.{seen}
+use Rattle.vx_range.specs.Making.{made_each, marks_behind}
+use Rattle.vx_range.specs.Steps.Found.{IsGroupFound}
+use Rattle.vx_range.proofs.findings.add_term.Given as goal
+
+abbrev pub invariant-loop-piece : goal.invariant-loop-piece
+invariant-loop-piece g l =
+    IsGroupFound g.L.Language.ReadsAs g.L.Language.IsPast (g.L.Making.outcome l.domain) (map seen (take l.piece-index l.pieces)) l.initial.findings l.findings
+    (λ group. (l.spans ≡ joined (made_each (g.L.Making.spans l.domain) l.initial.findings.marks group)) × (l.findings.marks ≡ marks_behind (g.L.Making.spans l.domain) l.initial.findings.marks group))

@@ -1,0 +1,4 @@
+pub mod Constructs
+pub mod OneRefusal
+pub mod Ranges
+pub mod Points

@@ -1,0 +1,140 @@
+ghost use Rattle.std.specs.Prelude.{◌≡◌, ◌∷◌, [], None, Some, IfOk, IfErr, OnOk, map};
+ghost use Rattle.std.specs.List.{AllByRecursion};
+ghost use Rattle.vx_spec.specs.Each.{joined};
+ghost use Rattle.vx_scheme.specs.Native.{Refused};
+ghost use Rattle.vx_range.specs.Pieces.{seen, IsInPlace};
+ghost use Rattle.vx_range.specs.Reading.{IsNoConstruct};
+ghost use Rattle.vx_range.specs.Making.{made_each, marks_behind};
+ghost use Rattle.vx_range.specs.Steps.Ends.{start, EndsWith};
+ghost use Rattle.vx_range.specs.Steps.Found.{IsConstructFound, IsPieceFound, IsGroupFound, AppendsSpans, IsSyntaxOf};
+
+use crate::language::Language;
+use crate::making::{Making, Outcome};
+use crate::piece::{Piece, PieceReading};
+use std::alloc::Global;
+use vx_scheme::{Alternative, Domain, EndKind, NoMemory, RangeFault, Spans};
+
+/// What was found on the way through a range text: the mark of the next cut, and the first refusal of each kind so far.
+#[derive(Drop)]
+pub(crate) struct Findings {
+    /// The mark of the next cut.
+    pub(crate) marks: u64,
+    /// Where the first numeral past the limit begins.
+    pub(crate) past: Option<usize>,
+    /// The first construct that has no end: of which kind, and where it begins.
+    pub(crate) endless: Option<(EndKind, usize)>,
+    /// Where the first construct begins that cannot be raised.
+    pub(crate) too_high: Option<usize>,
+}
+
+impl Findings {
+    /// Nothing is found, and the next mark is 0.
+    pub(crate) fn start() -> Self
+        ensures { result ≡ start }
+    {
+        Findings {
+            marks: 0,
+            past: None,
+            endless: None,
+            too_high: None,
+        }
+    }
+
+    /// The first refusal of what was found.
+    pub(crate) fn end(&self) -> Result<(), RangeFault>
+        ensures { EndsWith self.now result }
+    {
+        if let Some(at) = self.past {
+            return Err(RangeFault::Numeral(at));
+        }
+        if let Some((kind, at)) = self.endless {
+            return Err(RangeFault::NoEndpoint(kind, at));
+        }
+        match self.too_high {
+            Some(at) => Err(RangeFault::Numeral(at)),
+            None => Ok(()),
+        }
+    }
+}
+
+/// Appends the spans of a construct that begins at this place, or takes down why there are none.
+fn add_construct<M: Making>(
+    alloc: Global,
+    construct: M::Construct,
+    at: usize,
+    domain: Domain,
+    findings: &mut Findings,
+    out: &mut Spans<M::Version>,
+) -> Result<(), NoMemory>
+    ensures { OnOk result (IsConstructFound (M.spans domain) (M.outcome domain) construct at findings.old findings.new out.old out.new) }
+{
+    match M::push_spans(alloc, construct, domain, &mut findings.marks, out)? {
+        Outcome::Spans => {}
+        Outcome::NoEnd(kind) => findings.endless = findings.endless.or(Some((kind, at))),
+        Outcome::TooHigh => findings.too_high = findings.too_high.or(Some(at)),
+    }
+    Ok(())
+}
+
+/// Reads a piece once, and appends its spans or takes down its refusal. A piece that is no construct ends the reading.
+fn add_piece<L: Language>(
+    alloc: Global,
+    piece: &Piece<L::Kind>,
+    domain: Domain,
+    findings: &mut Findings,
+    out: &mut Spans<L::Version>,
+) -> Result<(), RangeFault>
+    requires { IsInPlace (seen piece.now) }
+    ensures ok { OnOk result (IsPieceFound L.ReadsAs L.IsPast (L.outcome domain) (seen piece.now) findings.old findings.new
+        (AppendsSpans (L.spans domain) findings.old.marks findings.new.marks out.old out.new)) }
+    ensures err { IfErr result (Refused (IsSyntaxOf (IsNoConstruct L.ReadsAs) (seen piece.now ∷ []))) }
+{
+    match L::read_piece(alloc, piece)? {
+        PieceReading::Construct(construct) => {
+            add_construct::<L>(alloc, construct, piece.at, domain, findings, out)?;
+        }
+        PieceReading::Past(at) => findings.past = findings.past.or(Some(at)),
+        PieceReading::NoConstruct => return Err(RangeFault::Syntax(piece.at)),
+    }
+    Ok(())
+}
+
+/// The terms of a group of pieces: one for each construct.
+pub(crate) fn add_alternative<L: Language>(
+    alloc: Global,
+    pieces: &[Piece<L::Kind>],
+    domain: Domain,
+    findings: &mut Findings,
+) -> Result<Alternative<L::Version>, RangeFault>
+    requires { AllByRecursion IsInPlace (map seen pieces.now) }
+    ensures ok { IfOk result (λ terms. IsGroupFound L.ReadsAs L.IsPast (L.outcome domain) (map seen pieces.now) findings.old findings.new
+        (λ group. (terms ≡ made_each (L.spans domain) findings.old.marks group) × (findings.new.marks ≡ marks_behind (L.spans domain) findings.old.marks group))) }
+    ensures err { IfErr result (Refused (IsSyntaxOf (IsNoConstruct L.ReadsAs) (map seen pieces.now))) }
+{
+    let mut terms = Alternative::with_room(alloc, pieces.len())?;
+    for piece in pieces {
+        let mut spans = Spans::with_room(alloc, 1)?;
+        add_piece::<L>(alloc, piece, domain, findings, &mut spans)?;
+        terms.push(spans)?;
+    }
+    Ok(terms)
+}
+
+/// The spans of all constructs of a group of pieces: one term.
+pub(crate) fn add_term<L: Language>(
+    alloc: Global,
+    pieces: &[Piece<L::Kind>],
+    domain: Domain,
+    findings: &mut Findings,
+) -> Result<Spans<L::Version>, RangeFault>
+    requires { AllByRecursion IsInPlace (map seen pieces.now) }
+    ensures ok { IfOk result (λ spans. IsGroupFound L.ReadsAs L.IsPast (L.outcome domain) (map seen pieces.now) findings.old findings.new
+        (λ group. (spans ≡ joined (made_each (L.spans domain) findings.old.marks group)) × (findings.new.marks ≡ marks_behind (L.spans domain) findings.old.marks group))) }
+    ensures err { IfErr result (Refused (IsSyntaxOf (IsNoConstruct L.ReadsAs) (map seen pieces.now))) }
+{
+    let mut spans = Spans::with_room(alloc, pieces.len())?;
+    for piece in pieces {
+        add_piece::<L>(alloc, piece, domain, findings, &mut spans)?;
+    }
+    Ok(spans)
+}

@@ -1,0 +1,26 @@
+//! What range languages share: pieces with their places in groups, one way through them that reads each piece once,
+//! and the spans that constructs make.
+#![tactic(auto)]
+
+mod bounds;
+mod findings;
+mod language;
+mod laws;
+mod lists;
+mod making;
+mod piece;
+mod points;
+mod spans;
+#[cfg(test)]
+mod tests;
+
+pub use bounds::{bounds_of_alternatives, bounds_of_terms};
+pub use language::Language;
+pub use laws::one_answer;
+pub use lists::{group_list, pieces_are_those_of_texts, pieces_at};
+pub use making::{Making, Outcome};
+pub use piece::{Piece, PieceReading};
+pub use points::is_point;
+pub use spans::{
+    push_above, push_below, push_between, push_every, push_from, push_point, push_up_to,
+};

@@ -1,0 +1,85 @@
+-- Numerals past the limit, and how they are found.
+use Rattle.std.proofs.Common.{◌≡◌, ◌<◌, ◌+◌, ◌^◌, ◌++◌, not, ℕ, zero, suc, Bool, true, false, List, [], ◌∷◌, length, drop, refl, sym, ap, ◌∙◌, subst, inl, inr, Some, None, arith, nat_lt}
+use Rattle.std.specs.List.{list_all, prefix_len}
+use Rattle.std.specs.Char.{is_ascii_digit}
+use Rattle.std.specs.Str.{IsUtf8}
+use Rattle.std.proofs.lemmas.Bool.{cases_Bool, and_parts, ltb-true, lt-ltb}
+use Rattle.std.proofs.lemmas.Bool.Decides.{nat_tests}
+use Rattle.vx_spec.specs.Numerals.{value}
+use Rattle.vx_spec.specs.Runs.{begins, run, past}
+use Rattle.vx_spec.proofs.RunLaws.{run_step, run_stays, run_past, past_begins, run_all, one_run}
+use Rattle.vx_spec.proofs.TextLaws.{each_by_test, utf8_by_each}
+use Rattle.vx_text.specs.Past.{is_past, first_past, NonePast}
+
+-- digits are UTF-8
+digit_byte : (b : ℕ) → is_ascii_digit b ≡ true → b < 128
+digit_byte b is = grind (arith, nat_tests)
+
+pub digits_utf8 : (text : List ℕ) → list_all is_ascii_digit text ≡ true → IsUtf8 text
+digits_utf8 text all = utf8_by_each text (each_by_test (λ b. b < 128) is_ascii_digit text digit_byte all)
+
+-- ---- finding the first
+
+fine : (digits : List ℕ) → is_past digits ≡ false → value digits < 2 ^ 128
+fine digits is = elim (cases_Bool (nat_lt (value digits) (2 ^ 128))) [
+  | inl small ↦ ltb-true (value digits) (2 ^ 128) small
+  | inr other ↦ absurd (cc (ap not other, is))
+]
+
+not_past : (digits : List ℕ) → value digits < 2 ^ 128 → is_past digits ≡ false
+not_past digits small = ap not (lt-ltb (value digits) (2 ^ 128) small)
+
+-- a numeral within the limit is passed over
+pass_digits : (at : ℕ) (digits rest : List ℕ) → list_all is_ascii_digit digits ≡ true → begins is_ascii_digit rest ≡ false → value digits < 2 ^ 128
+    → first_past at (digits ++ rest) ≡ first_past (at + length digits) rest
+pass_digits at [] rest all none small = ap (λ i. first_past i rest) (omega arith)
+pass_digits at (d ∷ digits) rest all none small =
+    let whole' = one_run is_ascii_digit (d ∷ digits) rest all none in
+    let here : is_past (run is_ascii_digit (d ∷ (digits ++ rest))) ≡ false = ap is_past whole'.0 ∙ not_past (d ∷ digits) small in
+    let less : value digits < 2 ^ 128 = omega (arith, small) in
+    let place : at + 1 + length digits ≡ at + length (d ∷ digits) = omega arith in
+    rw here (pass_digits (at + 1) digits rest (and_parts (is_ascii_digit d) (list_all is_ascii_digit digits) all).1 none less ∙ ap (λ i. first_past i rest) place)
+
+pub pass_run : (at : ℕ) (text : List ℕ) → is_past (run is_ascii_digit text) ≡ false → first_past at text ≡ first_past (at + length (run is_ascii_digit text)) (past is_ascii_digit text)
+pass_run at text is =
+    ap (first_past at) (run_past is_ascii_digit text) ∙ pass_digits at (run is_ascii_digit text) (past is_ascii_digit text) (run_all is_ascii_digit text) (past_begins is_ascii_digit text) (fine _ is)
+
+pub here_past : (at b : ℕ) (text : List ℕ) → is_past (run is_ascii_digit (b ∷ text)) ≡ true → first_past at (b ∷ text) ≡ Some at
+here_past at b text is = rw is refl
+
+-- ---- none past
+
+pub none_past : (at : ℕ) (text : List ℕ) → first_past at text ≡ None → NonePast text
+none_past at [] e = tt
+none_past at (b ∷ text) e = elim (cases_Bool (is_past (run is_ascii_digit (b ∷ text)))) [
+  | inl past' ↦ absurd (cc (rw past' at e))
+  | inr other ↦ (fine (run is_ascii_digit (b ∷ text)) other, none_past (at + 1) text (rw other at e))
+]
+
+pub none_behind : (xs ys : List ℕ) → NonePast (xs ++ ys) → NonePast ys
+none_behind [] ys h = h
+none_behind (x ∷ xs) ys h = none_behind xs ys h.1
+
+none_drop : (n : ℕ) (text : List ℕ) → NonePast text → NonePast (drop n text)
+none_drop zero text h = h
+none_drop (suc n) [] h = tt
+none_drop (suc n) (b ∷ text) h = none_drop n text h.1
+
+pub none_after : (test : ℕ → Bool) (text : List ℕ) → NonePast text → NonePast (past test text)
+none_after test text h = none_drop (prefix_len test text) text h
+
+pub run_front : (xs ys : List ℕ) → begins is_ascii_digit ys ≡ false → run is_ascii_digit (xs ++ ys) ≡ run is_ascii_digit xs
+run_front [] [] none = refl
+run_front [] (y ∷ ys) none = run_stays is_ascii_digit y ys none
+run_front (x ∷ xs) ys none = elim (cases_Bool (is_ascii_digit x)) [
+  | inl digit ↦ run_step is_ascii_digit x (xs ++ ys) digit ∙ ap (λ (r : List ℕ). x ∷ r) (run_front xs ys none) ∙ sym (run_step is_ascii_digit x xs digit)
+  | inr other ↦ run_stays is_ascii_digit x (xs ++ ys) other ∙ sym (run_stays is_ascii_digit x xs other)
+]
+
+pub none_front : (xs ys : List ℕ) → begins is_ascii_digit ys ≡ false → NonePast (xs ++ ys) → NonePast xs
+none_front [] ys none h = tt
+none_front (x ∷ xs) ys none h = (subst (λ r. value r < 2 ^ 128) (run_front (x ∷ xs) ys none) h.0, none_front xs ys none h.1)
+
+pub none_run : (text : List ℕ) → NonePast text → value (run is_ascii_digit text) < 2 ^ 128
+none_run [] h = omega arith
+none_run (b ∷ text) h = h.0

@@ -1,0 +1,25 @@
+-- The one table of schemes: for each that is built, what its implementations of `Scheme` and `Native` say of themselves.
+-- A further scheme is one row more.
+use Rattle.vx_scheme.specs.declared.name.SchemeName.{SchemeName}
+use Rattle.vx_scheme.specs.declared.name.SchemeName.TheVariants.{Npm, Deb}
+use Rattle.vx_scheme.specs.declared.scheme.Scheme.{Ghosts as Scheme}
+use Rattle.vx_scheme.specs.declared.native.Native.{Ghosts as Language}
+use Rattle.npm_range.specs.contracts.range.NpmRangeScheme.TheImpl.{ghosts as npm_scheme}
+use Rattle.npm_range.specs.contracts.range.NpmRangeNative.TheImpl.{ghosts as npm_native}
+use Rattle.relation_ranges.specs.Deb.Members.{deb_scheme, deb_native}
+
+-- a scheme with its range language
+pub record Row : Type 1 where
+  pub Self : Type 0
+  pub Version : Type 0
+  pub scheme : Scheme Self Version
+  pub language : Language Self Version
+
+abbrev pub row : {S V : Type 0} → Scheme S V → Language S V → Row
+row {S} {V} scheme language = record { Self = S; Version = V; scheme = scheme; language = language }
+
+-- what is said of the row of a scheme, or what is said of a scheme that is not built
+abbrev pub of_scheme {ℓ} : {A : Type ℓ} → (Row → A) → A → SchemeName → A
+of_scheme said absent Npm = said (row npm_scheme npm_native)
+of_scheme said absent Deb = said (row deb_scheme deb_native)
+of_scheme said absent _ = absent
