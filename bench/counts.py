@@ -23,19 +23,19 @@ LINES = [
 USAGE_FAULT = ["purl"]
 
 
-def counted(tool, shown, words):
-    """The number that a tool of valgrind shows behind such words, of one call."""
-    run = subprocess.run(["valgrind", *tool, PROGRAM, *words], stdout=subprocess.DEVNULL,
+def counted(tool, shown, words, given=""):
+    """The number that a tool of valgrind shows behind such words, of one call that is given this input."""
+    run = subprocess.run(["valgrind", *tool, PROGRAM, *words], input=given, stdout=subprocess.DEVNULL,
                          stderr=subprocess.PIPE, text=True, check=False)
     return int(re.search(shown + r"\s*([\d,]+)", run.stderr).group(1).replace(",", ""))
 
 
-def allocations(words):
-    return counted(["--tool=memcheck"], "total heap usage:", words)
+def allocations(words, given=""):
+    return counted(["--tool=memcheck"], "total heap usage:", words, given)
 
 
-def instructions(words):
-    return counted(["--tool=callgrind", f"--callgrind-out-file={os.devnull}"], r"Collected\s*:", words)
+def instructions(words, given=""):
+    return counted(["--tool=callgrind", f"--callgrind-out-file={os.devnull}"], r"Collected\s*:", words, given)
 
 
 def main():

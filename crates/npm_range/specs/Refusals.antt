@@ -24,7 +24,7 @@ AreCounted text parts =
     ((is_short text ≡ true) × (parts ≡ before_any (numbers text)))
     ⊎ ((p : Parts) × IsVersionWritten text p × (parts ≡ p.major ∷ p.minor ∷ p.patch ∷ p.pre))
 
--- where the partial begins, which is at the end of the piece
+-- Where the text of a partial, without its `v`, begins in the range text: it is what stands last in the piece.
 abbrev pub partial_place : Written Kind → ℕ
 partial_place piece = piece.at + (length piece.bytes - length (partial_text piece))
 

@@ -22,12 +22,16 @@ const ESCAPED: AsciiSet = ascii_set!(
         .remove(b':')
 );
 
-/// The text of a package URL, which is read again as the same. It takes one allocation.
+/// Room for what makes the text an answer line, so that the line takes no memory of its own: a word and a tab in front,
+/// and a line feed behind.
+const ROOM_FOR_A_LINE: usize = 8;
+
+/// The text of a package URL, which is read again as the same. It takes one allocation, with room for a line.
 pub fn to_text(alloc: Global, purl: &Purl) -> Result<Text, NoMemory>
     ensures text { IfOk result (λ text. text ≡ purl_text purl.now) }
     ensures again { IfOk result (λ text. SpellsPurl text purl.now) }
 {
-    let mut text = Text::with_room(alloc, room(purl))?;
+    let mut text = Text::with_room(alloc, room(purl).saturating_add(ROOM_FOR_A_LINE))?;
     push_purl(&mut text, purl)?;
     Ok(text)
 }

@@ -1,1 +1,4 @@
 mod BackTexts
+mod GemTexts
+mod RpmTexts
+mod TermTexts

@@ -1,5 +1,7 @@
--- A range language of relations: which versions are in a text, which spans the text makes, and what it is refused for.
--- `holds` says when an operator with its version holds of another, `spans` which spans they make, and `outcome` whether.
+-- A range language of relations: which versions are in a text, which bounds the text makes in a domain, and what it is
+-- refused for. What its operators mean is given: `holds operator version v` says whether `v` is as the operator with its
+-- version asks, `spans` are the spans that the two make, from a first mark on, and `outcome` says whether they make any,
+-- or for which cause not.
 use Rattle.std.specs.Prelude.{ℕ, Bool, List, Option}
 use Rattle.vx_scheme.specs.declared.domain.Domain.{Domain}
 use Rattle.vx_scheme.specs.declared.range_fault.RangeFault.{RangeFault}
@@ -10,7 +12,7 @@ use Rattle.vx_range.specs.Ranges as ranges
 use Rattle.relation_ranges.specs.declared.relations.Relation.{Relation}
 use Rattle.relation_ranges.specs.Reading.{IsCut, ReadsAs, IsPast}
 
--- the same of a relation
+-- what is given of an operator and its version, said of a relation, which has the two
 abbrev pub relation_holds : {O V : Type 0} → (O → V → V → Bool) → Relation O V → V → Bool
 relation_holds holds relation v = holds relation.operator relation.version v
 

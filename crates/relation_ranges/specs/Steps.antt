@@ -1,1 +1,3 @@
 pub mod DebBack
+pub mod RpmBack
+pub mod Terms

@@ -2,7 +2,7 @@
 use Rattle.std.proofs.Common.{◌≡◌, ◌≤◌, ◌<◌, ◌^◌, ℕ, ◌+◌, ◌-◌, List, [], ◌∷◌, length, map, min, drop, arith, refl, length-append}
 use Rattle.std.proofs.lemmas.List.{drop_all}
 use Rattle.std.specs.List.{join_with_byte}
-use Rattle.vx_cli.specs.Fields.{joined_length}
+use Rattle.vx_batch.specs.Fields.{joined_length}
 
 -- the length of the fields, each with a tab behind it
 abbrev pub spaced : List (List ℕ) → ℕ

@@ -1,3 +1,4 @@
 pub mod Joined
-pub mod Parts
-pub mod Translations
+pub mod Numbers
+pub mod Said
+pub mod WordRows

@@ -1,9 +1,3 @@
-pub mod Outside
-pub mod Store
-pub mod Fields
-pub mod Usage
-pub mod Commands
-pub mod Answers
-pub mod Translations
+pub mod Jobs
 pub mod Statuses
 pub mod Runs

@@ -1,22 +1,28 @@
-ghost use Rattle.std.specs.Prelude.{◌≡◌, ◌≢◌, ◌↔◌, ◌⊎◌, ◌∷◌, [], ℕ, List, Bool, IsTrue, IfOk, codes};
-ghost use Rattle.vx_cli.specs.Answers.{IsAnswer};
-ghost use Rattle.vx_cli.specs.Fields.{texts};
-ghost use Rattle.vx_cli.specs.Outside.{Rose};
-ghost use Rattle.vx_cli.specs.Runs.{AppendsAnswer, AppendsAnswerFront, AppendsSuch, ended_with};
-ghost use Rattle.vx_cli.specs.Translations.{IsTranslation, IsTranslationBack, IsSimplification, IsMembership, IsCanonicalPurl, IsComparison};
-ghost use Rattle.vx_cli.specs.Usage.{is_usage_fault};
+ghost use Rattle.std.specs.Prelude.{◌≡◌, ◌≢◌, ◌↔◌, ◌⊎◌, ◌∷◌, [], ◌^◌, ℕ, Bool, List, true, codes, IfOk};
+ghost use Rattle.vx_lines.specs.Output.{Ran};
+ghost use Rattle.vx_lines.specs.declared.loop_end.LoopEnd.{LoopEnd};
+ghost use Rattle.vx_batch.specs.Answers.{IsLineAnswer, IsNotBuilt};
+ghost use Rattle.vx_batch.specs.Fields.{fields_of_line, texts};
+ghost use Rattle.vx_batch.specs.Requests.{fields_of, with_texts};
+ghost use Rattle.vx_batch.specs.Translations.{Says};
+ghost use Rattle.vx_batch.specs.declared.request.Request.{Request};
+ghost use Rattle.vx_cli.specs.Jobs.{IsJob, IsUsageFault};
+ghost use Rattle.vx_lines.specs.Outside.{FailsAtLast, Rose, Succeeds};
+ghost use Rattle.vx_cli.specs.Runs.{AppendsSuch, AppendsSuchFront, IsWordsAnswer, ended_with, status_of};
+ghost use Rattle.vx_cli.specs.declared.job.Job.TheVariants as job_of;
+ghost use Rattle.vx_cli.specs.declared.status.Status.TheVariants as Status;
 
-use crate::answering::answer;
-use crate::fields::fields_of;
-use crate::outside::{Sink, Source};
-use crate::reply::Answer;
+use crate::job::{Job, job_of};
 use crate::status::Status;
-use crate::usage::is_usage_fault;
+use crate::words::joined_length;
 use crate::writing::put_line;
 use std::alloc::Global;
+use vx_batch::{Answer, Request, answer_to_request, batch, not_built, too_long};
+use vx_lines::{MOST_BYTES, MOST_INPUT, Sink, Source};
 use vx_scheme::NoMemory;
 
 /// Does what the words say.
+#[tactic(auto, using(crate::proofs::Said::line_says))]
 pub fn run<R: Source, W: Sink>(
     alloc: Global,
     words: &Vec<String>,
@@ -24,75 +30,120 @@ pub fn run<R: Source, W: Sink>(
     sink: &mut W,
 ) -> Status
     // A usage fault is answered exactly where the words are one, and then nothing is read or written.
-    ensures usage { (result ≡ Status.Usage) ↔ IsTrue (is_usage_fault (texts words.now.items)) }
+    ensures usage { (result ≡ Status.Usage) ↔ IsUsageFault (texts words.now.items) }
     ensures untouched { result ≡ Status.Usage → (source.new ≡ source.old) × (sink.new ≡ sink.old) }
 
-    // The source is never read.
-    ensures unread { source.new ≡ source.old }
-    ensures no_read_fault { result ≢ Status.ReadFault }
-    ensures no_limit { result ≢ Status.InputLimit }
+    // The words of one line: after Done and Refused the sink got the whole answer line, which says which of the two it is.
+    // Whatever it ends with, the sink is as it was, or it got a front of that line. The source is not read.
+    ensures line { (request : Request (List ℕ)) → IsJob (texts words.now.items) (job_of.Line request) → (ok : Bool) → result ≡ ended_with ok
+        → AppendsSuch (IsWordsAnswer (texts words.now.items) ok) (W.held sink.old) (W.held sink.new) }
+    ensures line_front { (request : Request (List ℕ)) → IsJob (texts words.now.items) (job_of.Line request)
+        → (sink.new ≡ sink.old) ⊎ ((ok : Bool)
+        × AppendsSuchFront (IsWordsAnswer (texts words.now.items) ok) (W.held sink.old) (W.held sink.new)) }
+    ensures line_unread { (request : Request (List ℕ)) → IsJob (texts words.now.items) (job_of.Line request) → source.new ≡ source.old }
 
-    // After Done and Refused the sink got the whole answer line, which says which of the two it is, and no call failed.
-    ensures line { (ok : Bool) → result ≡ ended_with ok
-        → AppendsAnswer (texts words.now.items) ok (W.held sink.old) (W.held sink.new) }
-    ensures counts { (ok : Bool) → result ≡ ended_with ok
-        → (R.faults source.new ≡ R.faults source.old) × (W.faults sink.new ≡ W.faults sink.old) }
+    // What is accepted says what its command promises: a translated range and its printed text hold exactly the same
+    // versions of the domain, either way; simplified constraints keep their set and simplify no further; `yes` comes
+    // exactly where the list holds the version; two package URLs get equal canonical texts exactly where they mean the
+    // same package.
+    ensures says { (request : Request (List ℕ)) → IsJob (texts words.now.items) (job_of.Line request) → result ≡ Status.Done
+        → AppendsSuch (Says request) (W.held sink.old) (W.held sink.new) }
 
-    // A translated range and its printed text hold exactly the same versions of the domain, either way.
-    ensures to_vers { (scheme domain range : List ℕ) → texts words.now.items ≡ codes "to-vers" ∷ scheme ∷ domain ∷ range ∷ [] → result ≡ Status.Done
-        → AppendsSuch (IsTranslation scheme domain range) (W.held sink.old) (W.held sink.new) }
-    ensures from_vers { (domain text : List ℕ) → texts words.now.items ≡ codes "from-vers" ∷ domain ∷ text ∷ [] → result ≡ Status.Done
-        → AppendsSuch (IsTranslationBack domain text) (W.held sink.old) (W.held sink.new) }
+    // `batch`: after Done and Refused the source was read to its end, and the sink got the answers to its lines, in order
+    // and nothing else; after every other end a front of them.
+    ensures batch { IsJob (texts words.now.items) job_of.Batch → (end : LoopEnd) × (result ≡ status_of end)
+        × Ran (IsLineAnswer 65536) 4096 (2 ^ 30) end (R.left source.old) (R.left source.new) (W.held sink.old) (W.held sink.new) }
 
-    // Simplified constraints keep their set and simplify no further.
-    ensures canon { (text : List ℕ) → texts words.now.items ≡ codes "canon" ∷ text ∷ [] → result ≡ Status.Done
-        → AppendsSuch (IsSimplification text) (W.held sink.old) (W.held sink.new) }
+    // Each line of `batch` that is accepted says what its command promises, as the words of the same command do.
+    ensures batch_says { (line text : List ℕ) (request : Request (List ℕ)) → IsLineAnswer 65536 line true text
+        → fields_of request ≡ fields_of_line line → Says request text }
 
-    // `yes` comes exactly where the list as it is read holds the version.
-    ensures has { (text version : List ℕ) → texts words.now.items ≡ codes "has" ∷ text ∷ version ∷ [] → result ≡ Status.Done
-        → AppendsSuch (IsMembership text version) (W.held sink.old) (W.held sink.new) }
+    // A drill is not built yet.
+    ensures drill { (count : ℕ) → IsJob (texts words.now.items) (job_of.Drill count) → (ok : Bool) → result ≡ ended_with ok
+        → AppendsSuch (IsNotBuilt ok) (W.held sink.old) (W.held sink.new) }
+    ensures drill_front { (count : ℕ) → IsJob (texts words.now.items) (job_of.Drill count)
+        → (sink.new ≡ sink.old) ⊎ ((ok : Bool)
+        × AppendsSuchFront (IsNotBuilt ok) (W.held sink.old) (W.held sink.new)) }
+    ensures drill_unread { (count : ℕ) → IsJob (texts words.now.items) (job_of.Drill count) → source.new ≡ source.old }
 
-    // A package URL gets the canonical text of what it spells, and two of them mean the same package where `yes` comes.
-    ensures purl { (text : List ℕ) → texts words.now.items ≡ codes "purl" ∷ text ∷ [] → result ≡ Status.Done
-        → AppendsSuch (IsCanonicalPurl text) (W.held sink.old) (W.held sink.new) }
-    ensures same { (a b : List ℕ) → texts words.now.items ≡ codes "same" ∷ a ∷ b ∷ [] → result ≡ Status.Done
-        → AppendsSuch (IsComparison a b) (W.held sink.old) (W.held sink.new) }
+    // A fault has its cause, and no other status hides one.
+    ensures read_fault { result ≡ Status.ReadFault
+        → IsJob (texts words.now.items) job_of.Batch × Rose (R.faults source.old) (R.faults source.new) }
+    ensures no_read_fault { result ≢ Status.ReadFault → R.faults source.new ≡ R.faults source.old }
+    ensures write_fault { result ≡ Status.WriteFault → Rose (W.faults sink.old) (W.faults sink.new) }
+    ensures no_write_fault { result ≢ Status.WriteFault → W.faults sink.new ≡ W.faults sink.old }
 
-    // Whatever it ends with, the sink is as it was, or it got a front of an answer line.
-    ensures front { (sink.new ≡ sink.old) ⊎ AppendsAnswerFront (texts words.now.items) (W.held sink.old) (W.held sink.new) }
-    ensures write { result ≡ Status.WriteFault → Rose (W.faults sink.old) (W.faults sink.new) }
-    ensures no_memory { result ≡ Status.NoMemory → sink.new ≡ sink.old }
+    // The first write that fails is the last.
+    ensures write_fails { result ≡ Status.WriteFault → FailsAtLast W.write_gives sink.old sink.new }
+    ensures writes { result ≢ Status.WriteFault → Succeeds W.write_gives sink.old sink.new }
+
+    ensures limit { result ≡ Status.InputLimit → IsJob (texts words.now.items) job_of.Batch }
 {
-    if is_usage_fault(words) {
-        return Status::Usage;
+    match job_of(words.as_slice()) {
+        Some(Job::Line(request)) => run_line(alloc, words.as_slice(), &request, sink),
+        Some(Job::Batch) => Status::of_end(batch(alloc, MOST_INPUT, source, sink)),
+        Some(Job::Drill(_)) => run_not_built(alloc, sink),
+        None => Status::Usage,
     }
-    run_line(alloc, words, sink)
 }
 
 // Answers the one line of the words.
-fn run_line<W: Sink>(alloc: Global, words: &Vec<String>, sink: &mut W) -> Status
+fn run_line<W: Sink>(
+    alloc: Global,
+    words: &[String],
+    request: &Request<&str>,
+    sink: &mut W,
+) -> Status
+    requires { fields_of (with_texts (λ field. field.now) request.now) ≡ texts words.now }
     ensures line { (ok : Bool) → result ≡ ended_with ok
-        → AppendsAnswer (texts words.now.items) ok (W.held sink.old) (W.held sink.new) }
-    ensures count { (ok : Bool) → result ≡ ended_with ok → W.faults sink.new ≡ W.faults sink.old }
-    ensures front { (sink.new ≡ sink.old) ⊎ AppendsAnswerFront (texts words.now.items) (W.held sink.old) (W.held sink.new) }
-    ensures write { result ≡ Status.WriteFault → Rose (W.faults sink.old) (W.faults sink.new) }
-    ensures no_memory { result ≡ Status.NoMemory → sink.new ≡ sink.old }
+        → AppendsSuch (IsWordsAnswer (texts words.now) ok) (W.held sink.old) (W.held sink.new) }
+    ensures front { (sink.new ≡ sink.old) ⊎ ((ok : Bool)
+        × AppendsSuchFront (IsWordsAnswer (texts words.now) ok) (W.held sink.old) (W.held sink.new)) }
+    ensures write_fault { result ≡ Status.WriteFault → Rose (W.faults sink.old) (W.faults sink.new) }
+    ensures no_write_fault { result ≢ Status.WriteFault → W.faults sink.new ≡ W.faults sink.old }
+    ensures write_fails { result ≡ Status.WriteFault → FailsAtLast W.write_gives sink.old sink.new }
+    ensures writes { result ≢ Status.WriteFault → Succeeds W.write_gives sink.old sink.new }
     ensures no_usage { result ≢ Status.Usage }
     ensures no_read_fault { result ≢ Status.ReadFault }
     ensures no_limit { result ≢ Status.InputLimit }
 {
-    match words_answer(alloc, words) {
+    match words_answer(alloc, words, request) {
         Ok(answer) => Status::of(put_line(answer, sink)),
         Err(NoMemory) => Status::NoMemory,
     }
 }
 
 // The answer to the line of the words.
-fn words_answer(alloc: Global, words: &Vec<String>) -> Result<Answer, NoMemory>
-    ensures { IfOk result (λ a. IsAnswer (texts words.now.items) a.ok a.text) }
+fn words_answer(
+    alloc: Global,
+    words: &[String],
+    request: &Request<&str>,
+) -> Result<Answer, NoMemory>
+    requires { fields_of (with_texts (λ field. field.now) request.now) ≡ texts words.now }
+    ensures { IfOk result (λ a. IsWordsAnswer (texts words.now) a.ok a.text) }
 {
-    match fields_of(alloc, words) {
-        Ok(fields) => answer(alloc, &fields),
-        Err(_) => Err(NoMemory),
+    if joined_length(words) > MOST_BYTES {
+        too_long(alloc)
+    } else {
+        answer_to_request(alloc, request)
+    }
+}
+
+// Answers what is not built yet.
+fn run_not_built<W: Sink>(alloc: Global, sink: &mut W) -> Status
+    ensures line { (ok : Bool) → result ≡ ended_with ok
+        → AppendsSuch (IsNotBuilt ok) (W.held sink.old) (W.held sink.new) }
+    ensures front { (sink.new ≡ sink.old) ⊎ ((ok : Bool) × AppendsSuchFront (IsNotBuilt ok) (W.held sink.old) (W.held sink.new)) }
+    ensures write_fault { result ≡ Status.WriteFault → Rose (W.faults sink.old) (W.faults sink.new) }
+    ensures no_write_fault { result ≢ Status.WriteFault → W.faults sink.new ≡ W.faults sink.old }
+    ensures write_fails { result ≡ Status.WriteFault → FailsAtLast W.write_gives sink.old sink.new }
+    ensures writes { result ≢ Status.WriteFault → Succeeds W.write_gives sink.old sink.new }
+    ensures no_usage { result ≢ Status.Usage }
+    ensures no_read_fault { result ≢ Status.ReadFault }
+    ensures no_limit { result ≢ Status.InputLimit }
+{
+    match not_built(alloc) {
+        Ok(told) => Status::of(put_line(told, sink)),
+        Err(NoMemory) => Status::NoMemory,
     }
 }

@@ -1,8 +1,9 @@
 ghost use Rattle.std.specs.Prelude.{◌≡◌};
-ghost use Rattle.vx_cli.specs.Runs.{put_status};
+ghost use Rattle.vx_cli.specs.Runs.{put_status, status_of};
 ghost use Rattle.vx_cli.specs.Statuses.{number_of};
 
 use crate::writing::PutFault;
+use vx_lines::LoopEnd;
 
 /// How a run ended.
 #[derive(Clone, Copy, Debug, PartialEq, Eq)]
@@ -33,6 +34,20 @@ impl Status {
             Ok(false) => Status::Refused,
             Err(PutFault::Failed) => Status::WriteFault,
             Err(PutFault::NoMemory) => Status::NoMemory,
+        }
+    }
+
+    /// The status of a run over lines that ended so. It takes no memory.
+    pub fn of_end(end: LoopEnd) -> Self
+        ensures { result ≡ status_of end }
+    {
+        match end {
+            LoopEnd::Done => Status::Done,
+            LoopEnd::Refused => Status::Refused,
+            LoopEnd::ReadFault => Status::ReadFault,
+            LoopEnd::WriteFault => Status::WriteFault,
+            LoopEnd::NoMemory => Status::NoMemory,
+            LoopEnd::InputLimit => Status::InputLimit,
         }
     }
 

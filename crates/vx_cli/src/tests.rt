@@ -1,7 +1,10 @@
+mod batch;
+mod cargo;
 mod debian;
 mod npm;
-mod outside;
 mod package_urls;
 mod rows;
+mod rpm;
+mod rubygems;
 mod vers;
 mod words;

@@ -1,11 +1,11 @@
-ghost use Rattle.std.specs.Prelude.{◌≡◌, IfOk, IsErrOf};
+ghost use Rattle.std.specs.Prelude.{◌≡◌, IfOk, IsErrOf, OnOk};
 ghost use Rattle.std.specs.Io.KnownBytes.{Appends};
-ghost use Rattle.vx_cli.specs.Outside.{Rose, AppendsFront};
+ghost use Rattle.vx_lines.specs.Outside.{AppendsFront, FailsAtLast, Rose, Succeeds};
 ghost use Rattle.vx_cli.specs.Runs.{line_of};
 
-use crate::outside::{Failed, Sink, write_whole};
-use crate::reply::Answer;
 use thiserror::Error;
+use vx_batch::Answer;
+use vx_lines::{Failed, Sink, write_whole};
 
 /// Why an answer was not written whole.
 #[derive(Clone, Copy, Debug, PartialEq, Eq, Error)]
@@ -26,6 +26,8 @@ pub fn put_line<W: Sink>(answer: Answer, sink: &mut W) -> Result<bool, PutFault>
     ensures front { AppendsFront (W.held sink.old) (W.held sink.new) (line_of answer.text) }
     ensures write { IsErrOf result PutFault.Failed → Rose (W.faults sink.old) (W.faults sink.new) }
     ensures no_memory { IsErrOf result PutFault.NoMemory → sink.new ≡ sink.old }
+    ensures write_fails { IsErrOf result PutFault.Failed → FailsAtLast W.write_gives sink.old sink.new }
+    ensures writes { OnOk result (Succeeds W.write_gives sink.old sink.new) }
 {
     let Answer { ok, mut text } = answer;
     if text.push_str("\n").is_err() {

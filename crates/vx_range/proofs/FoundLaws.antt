@@ -61,6 +61,16 @@ module _ {A B : Type 0} (Syntax Past : A → Option ℕ → Type 0) (Endless : A
     made = λ clear. ([], tt, made);
   }
 
+  -- what is found at an item stays, whatever else is said of what it makes
+  pub still_found : (item : A) (old new : Findings) (Made Made' : B → Type 0) → ((b : B) → Made b → Made' b) → IsItemFound Syntax Past Endless TooHigh R item old new Made → IsItemFound Syntax Past Endless TooHigh R item old new Made'
+  still_found item old new Made Made' says f = record {
+    syntax' = f.syntax';
+    past = f.past;
+    endless = f.endless;
+    too_high = f.too_high;
+    made = λ clear. let m = f.made clear in (m.0, m.1, says m.0 m.2);
+  }
+
   -- one item more is gone over
   pub more_found : (items : List A) (x : A) (old mid new : Findings) (Made Made' : List B → Type 0) (MadeItem : B → Type 0) → AreFound Syntax Past Endless TooHigh R items old mid Made
       → IsItemFound Syntax Past Endless TooHigh R x mid new MadeItem → ((all : List B) (b : B) → Made all → MadeItem b → Made' (all ++ b ∷ [])) → AreFound Syntax Past Endless TooHigh R (items ++ x ∷ []) old new Made'

@@ -3,3 +3,4 @@ pub mod MadeLaws
 pub mod PieceFound
 pub mod PieceLaws
 pub mod PieceSteps
+pub mod RunningLaws

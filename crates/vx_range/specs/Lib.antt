@@ -3,6 +3,7 @@ pub mod Reading
 pub mod Making
 pub mod Ranges
 pub mod Spans
+pub mod Running
 pub mod Lists
 pub mod Laws
 pub mod Steps

@@ -25,15 +25,18 @@ module _ {V C : Type 0} (spans : ℕ → C → List (Span V)) where
   made_each mark [] = []
   made_each mark (construct ∷ group) = spans mark construct ∷ made_each (mark_behind mark construct) group
 
+  -- what the groups become, where `together` says what the spans of a group's constructs become; the marks run on
+  abbrev pub groups_from : {G : Type 0} → (List (List (Span V)) → G) → ℕ → List (List C) → List G
+  groups_from together mark [] = []
+  groups_from together mark (group ∷ all) = together (made_each mark group) ∷ groups_from together (marks_behind mark group) all
+
   -- the groups are alternatives, and each construct is a term
   abbrev pub alternatives_from : ℕ → List (List C) → List (List (List (Span V)))
-  alternatives_from mark [] = []
-  alternatives_from mark (group ∷ all) = made_each mark group ∷ alternatives_from (marks_behind mark group) all
+  alternatives_from mark all = groups_from (λ terms. terms) mark all
 
   -- the groups are terms, and their constructs' spans are united
   abbrev pub terms_from : ℕ → List (List C) → List (List (Span V))
-  terms_from mark [] = []
-  terms_from mark (group ∷ all) = joined (made_each mark group) ∷ terms_from (marks_behind mark group) all
+  terms_from mark all = groups_from joined mark all
 
 -- the bounds of groups that are alternatives
 abbrev pub alternatives_of : {V C : Type 0} → (ℕ → C → List (Span V)) → List (List C) → List (List (List (Span V)))

@@ -2,7 +2,6 @@
 use Rattle.std.specs.Prelude.{◌≡◌, ◌⊎◌, ℕ, Bool, true, List, Some, None}
 use Rattle.vx_scheme.specs.declared.range_fault.RangeFault.{RangeFault}
 use Rattle.vx_scheme.specs.declared.range_fault.RangeFault.TheVariants.{Syntax, Numeral, NoEndpoint, NoMemory}
-use Rattle.vx_scheme.specs.declared.span.Span.{Span}
 use Rattle.vx_range.specs.declared.making.Outcome.{Outcome}
 use Rattle.vx_range.specs.Pieces.{Written}
 use Rattle.vx_range.specs.Reading.{ReadsGroups, Reads, FirstSyntax, FirstNumeral}
@@ -18,7 +17,7 @@ In {C = C} IsCut ReadsAs holds_all text v = (all : List (List C)) × Reads IsCut
 
 -- The text makes these bounds: it has a reading whose numerals are within the limit, each construct makes spans, and the
 -- bounds are made of those.
-pub record MakesBounds {K C V : Type 0} (IsCut : List ℕ → List (List (Written K)) → Type 0) (ReadsAs : Written K → C → Type 0) (IsPast : Written K → ℕ → Type 0) (outcome : C → Outcome) (bounds_of : List (List C) → List (List (List (Span V)))) (text : List ℕ) (bounds : List (List (List (Span V)))) : Type 0 where
+pub record MakesBounds {K C B : Type 0} (IsCut : List ℕ → List (List (Written K)) → Type 0) (ReadsAs : Written K → C → Type 0) (IsPast : Written K → ℕ → Type 0) (outcome : C → Outcome) (bounds_of : List (List C) → B) (text : List ℕ) (bounds : B) : Type 0 where
   pub groups : List (List (Written K))
   pub cut : IsCut text groups
   pub all : List (List C)

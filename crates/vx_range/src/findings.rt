@@ -77,7 +77,7 @@ fn add_construct<M: Making>(
 }
 
 /// Reads a piece once, and appends its spans or takes down its refusal. A piece that is no construct ends the reading.
-fn add_piece<L: Language>(
+pub(crate) fn add_piece<L: Language>(
     alloc: Global,
     piece: &Piece<L::Kind>,
     domain: Domain,
@@ -97,44 +97,4 @@ fn add_piece<L: Language>(
         PieceReading::NoConstruct => return Err(RangeFault::Syntax(piece.at)),
     }
     Ok(())
-}
-
-/// The terms of a group of pieces: one for each construct.
-pub(crate) fn add_alternative<L: Language>(
-    alloc: Global,
-    pieces: &[Piece<L::Kind>],
-    domain: Domain,
-    findings: &mut Findings,
-) -> Result<Alternative<L::Version>, RangeFault>
-    requires { AllByRecursion IsInPlace (map seen pieces.now) }
-    ensures ok { IfOk result (λ terms. IsGroupFound L.ReadsAs L.IsPast (L.outcome domain) (map seen pieces.now) findings.old findings.new
-        (λ group. (terms ≡ made_each (L.spans domain) findings.old.marks group) × (findings.new.marks ≡ marks_behind (L.spans domain) findings.old.marks group))) }
-    ensures err { IfErr result (Refused (IsSyntaxOf (IsNoConstruct L.ReadsAs) (map seen pieces.now))) }
-{
-    let mut terms = Alternative::with_room(alloc, pieces.len())?;
-    for piece in pieces {
-        let mut spans = Spans::with_room(alloc, 1)?;
-        add_piece::<L>(alloc, piece, domain, findings, &mut spans)?;
-        terms.push(spans)?;
-    }
-    Ok(terms)
-}
-
-/// The spans of all constructs of a group of pieces: one term.
-pub(crate) fn add_term<L: Language>(
-    alloc: Global,
-    pieces: &[Piece<L::Kind>],
-    domain: Domain,
-    findings: &mut Findings,
-) -> Result<Spans<L::Version>, RangeFault>
-    requires { AllByRecursion IsInPlace (map seen pieces.now) }
-    ensures ok { IfOk result (λ spans. IsGroupFound L.ReadsAs L.IsPast (L.outcome domain) (map seen pieces.now) findings.old findings.new
-        (λ group. (spans ≡ joined (made_each (L.spans domain) findings.old.marks group)) × (findings.new.marks ≡ marks_behind (L.spans domain) findings.old.marks group))) }
-    ensures err { IfErr result (Refused (IsSyntaxOf (IsNoConstruct L.ReadsAs) (map seen pieces.now))) }
-{
-    let mut spans = Spans::with_room(alloc, pieces.len())?;
-    for piece in pieces {
-        add_piece::<L>(alloc, piece, domain, findings, &mut spans)?;
-    }
-    Ok(spans)
 }

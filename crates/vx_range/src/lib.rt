@@ -10,13 +10,14 @@ mod lists;
 mod making;
 mod piece;
 mod points;
+mod shape;
 mod spans;
 #[cfg(test)]
 mod tests;
 
 pub use bounds::{bounds_of_alternatives, bounds_of_terms};
 pub use language::Language;
-pub use laws::one_answer;
+pub use laws::{marks_run_on, one_answer};
 pub use lists::{group_list, pieces_are_those_of_texts, pieces_at};
 pub use making::{Making, Outcome};
 pub use piece::{Piece, PieceReading};

@@ -109,7 +109,8 @@ fn push_group<'a>(
 ) -> Result<(), AllocError>
     requires piece { IsInPlace (seen piece) }
     requires placed { AllByRecursion (AllByRecursion IsInPlace) (map seen_all groups.old.items) }
-    ensures groups { OnOk result (map seen_all groups.new.items ≡ map seen_all groups.old.items ++ map (group_of inner) (not_empty (seen piece.entry ∷ []))) }
+    ensures groups { OnOk result (map seen_all groups.new.items
+        ≡ map seen_all groups.old.items ++ map (group_of inner) (not_empty (seen piece.entry ∷ []))) }
     ensures placed { OnOk result (AllByRecursion (AllByRecursion IsInPlace) (map seen_all groups.new.items)) }
 {
     if piece.bytes.is_empty() {
@@ -123,5 +124,6 @@ fn push_group<'a>(
 /// The pieces between the separators of a text that begins at any place are, place for place, those that
 /// `vx_text::pieces` finds in a text at 0.
 pub fn pieces_are_those_of_texts()
-    ensures { (separator at : ℕ) (text : List ℕ) → AreEach IsPlaced (places at (slice_split (λ b. b == separator) text)) (pieces_at separator at text) }
+    ensures { (separator at : ℕ) (text : List ℕ) →
+        AreEach IsPlaced (places at (slice_split (λ b. b == separator) text)) (pieces_at separator at text) }
 {}

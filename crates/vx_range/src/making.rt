@@ -8,7 +8,7 @@ use vx_scheme::{Domain, EndKind, NoMemory, Scheme, Spans};
 /// What becomes of a construct in a domain.
 #[derive(Debug, Clone, Copy, PartialEq, Eq)]
 pub enum Outcome {
-    /// It makes spans, or none that hold anything.
+    /// It makes its spans, of which there may be none: then it holds no version.
     Spans,
     /// It has no end, for this cause.
     NoEnd(EndKind),
@@ -51,5 +51,7 @@ pub trait Making: Scheme {
         ensures marks { IfOk result (λ o. o ≡ made.Spans → marks.new ≡ mark_behind (spans domain) marks.old construct) };
 
     /// What it makes holds the versions of the domain that it holds of.
-    ghost agrees: { (domain : Domain) (mark : ℕ) (construct : Self.Construct) (v : Self.Version) → Self.IsVersion v → InDomain Self.Scheme domain v → outcome domain construct ≡ made.Spans → in_spans Self.order (spans domain mark construct) v ≡ holds construct v };
+    ghost agrees: { (domain : Domain) (mark : ℕ) (construct : Self.Construct) (v : Self.Version) → Self.IsVersion v →
+        InDomain Self.Scheme domain v → outcome domain construct ≡ made.Spans →
+        in_spans Self.order (spans domain mark construct) v ≡ holds construct v };
 }

@@ -1,4 +1,8 @@
-use crate::{Piece, group_list, pieces_at};
+use crate::{
+    Piece, group_list, pieces_at, push_above, push_below, push_between, push_every, push_from,
+    push_up_to,
+};
+use vx_scheme::{Cut, Span, Spans};
 
 // The place and the bytes of a piece.
 fn is_piece(piece: &Piece<()>, at: usize, bytes: &[u8]) -> bool {
@@ -30,5 +34,41 @@ fn groups_of_a_list(rt: HostRuntime) -> Result<(), std::test::Fail> {
     let only = &whole[0];
     assert_eq!(rt; only.len(), 1);
     assert!(rt; is_piece(&only[0], 0, b"a|b"));
+    Ok(())
+}
+
+// A side's version, whether the cut stands after it, and its mark.
+fn side(cut: &Option<Cut<u64>>) -> Option<(u64, bool, u64)> {
+    let Some(cut) = cut else {
+        return None;
+    };
+    Some((cut.version, cut.after, cut.mark))
+}
+
+fn sides(span: &Span<u64>) -> (Option<(u64, bool, u64)>, Option<(u64, bool, u64)>) {
+    (side(&span.lower), side(&span.upper))
+}
+
+#[test]
+fn spans_with_marks_that_run_on(rt: HostRuntime) -> Result<(), std::test::Fail> {
+    let mut marks = 0;
+    let mut spans = Spans::new(rt.alloc());
+    push_every(&mut spans)?;
+    push_from(&mut marks, 3, &mut spans)?;
+    push_above(&mut marks, 4, &mut spans)?;
+    push_below(&mut marks, 5, &mut spans)?;
+    push_up_to(&mut marks, 6, &mut spans)?;
+    push_between(&mut marks, 7, 9, &mut spans)?;
+    let found = spans.into_vec();
+    assert_eq!(rt; found.len(), 6);
+    assert_eq!(rt; sides(&found[0]), (None, None));
+    assert_eq!(rt; sides(&found[1]), (Some((3, false, 0)), None));
+    assert_eq!(rt; sides(&found[2]), (Some((4, true, 1)), None));
+    assert_eq!(rt; sides(&found[3]), (None, Some((5, false, 2))));
+    assert_eq!(rt; sides(&found[4]), (None, Some((6, true, 3))));
+    assert_eq!(rt;
+        sides(&found[5]),
+        (Some((7, false, 4)), Some((9, false, 5)))
+    );
     Ok(())
 }

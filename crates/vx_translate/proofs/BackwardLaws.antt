@@ -27,7 +27,7 @@ use Rattle.vx_translate.specs.declared.refusal.BackKind.TheVariants as back_kind
 use Rattle.vx_translate.proofs.VersLaws.{read_versions}
 
 -- What is true of each constraint is true of those that stay,
-stay_all : {C : Type 0} (kind : C → Kind) (P : C → Type 0) (before list : List C) → AllByRecursion P list → AllByRecursion P (stays_behind kind before list)
+pub stay_all : {C : Type 0} (kind : C → Kind) (P : C → Type 0) (before list : List C) → AllByRecursion P list → AllByRecursion P (stays_behind kind before list)
 stay_all kind P before [] all = tt
 stay_all kind P before (c ∷ behind) all = elim (cases_Bool (is_dropped (opens_last kind false before) (kind c) (closes_first kind behind false))) [
   | inl dropped ↦ rw dropped (stay_all kind P (before ++ c ∷ []) behind all.1)

@@ -1,3 +1,10 @@
 pub mod BackwardLaws
+pub mod CanonicalAgain
 pub mod ForwardLaws
+pub mod OneBackward
+pub mod OneCanonical
+pub mod OneForward
+pub mod OneHaving
+pub mod OneList
+pub mod OneScheme
 pub mod VersLaws

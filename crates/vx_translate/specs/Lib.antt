@@ -7,3 +7,4 @@ pub mod Names
 pub mod Refusals
 pub mod Table
 pub mod VersTexts
+pub mod Steps

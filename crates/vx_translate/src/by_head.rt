@@ -26,8 +26,8 @@ fn head_scheme(text: &str) -> Result<SchemeName, Refusal>
 }
 
 /// The range text of a VERS text, in a domain: the default of the scheme that the head names where none is named.
-/// `BadVers` of the head comes first, exactly where it names no scheme. `NotBuilt` comes exactly for the schemes other
-/// than npm and Debian's. The other refusals are those of the first that stands in the text: `DomainNotOffered`, the
+/// `BadVers` of the head comes first, exactly where it names no scheme. `NotBuilt` comes exactly for PyPI, Maven
+/// and NuGet. The other refusals are those of the first that stands in the text: `DomainNotOffered`, the
 /// other `BadVers`, `NoNative`.
 pub fn from_vers(alloc: Global, domain: Option<Domain>, text: &str) -> Result<Text, Refusal>
     ensures ok { IfOk result (IsFromVers domain text.now) }
@@ -44,7 +44,7 @@ pub fn from_vers(alloc: Global, domain: Option<Domain>, text: &str) -> Result<Te
 }
 
 /// The canonical text of a VERS text: its simplified list, printed. `BadVers` of the head comes first, exactly where it
-/// names no scheme. `NotBuilt` comes exactly for the schemes other than npm and Debian's, and then the other `BadVers`.
+/// names no scheme. `NotBuilt` comes exactly for PyPI, Maven and NuGet, and then the other `BadVers`.
 pub fn canon(alloc: Global, text: &str) -> Result<Text, Refusal>
     ensures ok { IfOk result (IsCanon text.now) }
     ensures same { IfOk result (IsSameList text.now) }
@@ -55,8 +55,7 @@ pub fn canon(alloc: Global, text: &str) -> Result<Text, Refusal>
 }
 
 /// Whether a VERS text holds a version of its scheme: what the list means there, as it is read. `BadVers` of the head
-/// comes first, exactly where it names no scheme. `NotBuilt` comes exactly for the schemes other than npm and Debian's,
-/// then the other `BadVers`, then `BadVersion` where the scheme does not read the version.
+/// comes first, exactly where it names no scheme. `NotBuilt` comes exactly for PyPI, Maven and NuGet, then the other `BadVers`, then `BadVersion` where the scheme does not read the version.
 pub fn has(alloc: Global, text: &str, version: &str) -> Result<bool, Refusal>
     ensures ok { IfOk result (IsHas text.now version.now) }
     ensures err { IfErr result (IsHasRefused text.now version.now) }

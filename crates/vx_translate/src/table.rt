@@ -9,13 +9,13 @@ macro_rules! of_scheme {
     ($name:expr, $question:ident($($argument:expr),*), $absent:expr) => {
         match $name {
             vx_scheme::SchemeName::Npm => $question::<npm_range::NpmRange>($($argument),*),
+            vx_scheme::SchemeName::Gem => $question::<relation_ranges::GemRange>($($argument),*),
             vx_scheme::SchemeName::Deb => $question::<relation_ranges::DebRange>($($argument),*),
+            vx_scheme::SchemeName::Rpm => $question::<relation_ranges::RpmRange>($($argument),*),
+            vx_scheme::SchemeName::Cargo => $question::<cargo_range::Cargo>($($argument),*),
             vx_scheme::SchemeName::Pypi
             | vx_scheme::SchemeName::Maven
-            | vx_scheme::SchemeName::Gem
-            | vx_scheme::SchemeName::Rpm
-            | vx_scheme::SchemeName::Nuget
-            | vx_scheme::SchemeName::Cargo => $absent,
+            | vx_scheme::SchemeName::Nuget => $absent,
         }
     };
 }

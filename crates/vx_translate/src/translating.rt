@@ -7,8 +7,8 @@ use crate::table::of_scheme;
 use std::alloc::Global;
 use vx_scheme::{Domain, SchemeName, Text};
 
-/// The VERS text of a range text of the named scheme, in a domain. `NotBuilt` comes exactly for the schemes other than
-/// npm and Debian's; the other refusals are those of the first that stands in the text.
+/// The VERS text of a range text of the named scheme, in a domain. `NotBuilt` comes exactly for PyPI, Maven and
+/// NuGet; the other refusals are those of the first that stands in the text.
 pub fn to_vers(alloc: Global, name: SchemeName, domain: Domain, text: &str) -> Result<Text, Refusal>
     ensures ok { IfOk result (IsTranslated name domain text.now) }
     ensures members { IfOk result (IsSameRange name domain text.now) }

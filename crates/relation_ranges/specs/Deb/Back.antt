@@ -1,5 +1,5 @@
 -- The text of spans in Debian's range language: the text of the terms whose relations have the spans' cuts as bounds.
-use Rattle.std.specs.Prelude.{ℕ, Bool, true, false, List, [], ◌∷◌, ◌++◌, map, if◌then◌else◌, codes, Option, Some, None, Result, Ok}
+use Rattle.std.specs.Prelude.{ℕ, Bool, true, false, List, [], ◌∷◌, ◌++◌, if◌then◌else◌, Option, Some, None, Result, Ok}
 use Rattle.vx_scheme.specs.declared.domain.Domain.{Domain}
 use Rattle.vx_scheme.specs.declared.back_fault.BackFault.{BackFault}
 use Rattle.vx_scheme.specs.declared.span.Cut.{Cut}
@@ -7,30 +7,26 @@ use Rattle.vx_scheme.specs.declared.span.Span.{Span}
 use Rattle.vx_range.specs.Spans.{is_point}
 use Rattle.deb_scheme.specs.Version.{Fields}
 use Rattle.deb_scheme.specs.Order.{order_of}
+use Rattle.deb_scheme.specs.Writing.{normal}
 use Rattle.relation_ranges.specs.declared.deb.operators.Operator.{Operator}
 use Rattle.relation_ranges.specs.declared.deb.operators.Operator.TheVariants.{Earlier, EarlierOrEqual, Equal, LaterOrEqual, Later}
+use Rattle.relation_ranges.specs.Written as written
 use Rattle.relation_ranges.specs.Deb.Operators.{signs_of}
 use Rattle.relation_ranges.specs.Deb.Reading.{DebRelation}
 
 -- ---- texts
 
--- the texts with the separator between each two
-abbrev pub joined_by : List ℕ → List (List ℕ) → List ℕ
-joined_by separator [] = []
-joined_by separator (text ∷ []) = text
-joined_by separator (text ∷ next ∷ texts) = text ++ (separator ++ joined_by separator (next ∷ texts))
-
 -- the operator, a space and the text of the version
 abbrev pub relation_text : DebRelation → List ℕ
-relation_text relation = signs_of relation.operator ++ (codes " " ++ relation.version.text)
+relation_text = written.relation_text signs_of normal
 
 -- the relations with a bar between each two
 abbrev pub term_text : List DebRelation → List ℕ
-term_text term = joined_by (codes " | ") (map relation_text term)
+term_text = written.term_text signs_of normal
 
 -- the terms with a comma between each two
 abbrev pub range_text : List (List DebRelation) → List ℕ
-range_text terms = joined_by (codes ", ") (map term_text terms)
+range_text = written.range_text signs_of normal
 
 -- ---- terms
 

@@ -4,15 +4,12 @@ use Rattle.std.specs.Prelude.{⊤}
 use Rattle.std.specs.List.{AllByRecursion}
 use Rattle.std.specs.Ordering.{is_eq, is_lt, is_le, is_gt, is_ge}
 use Rattle.std.specs.Cmp.{alike_right}
-use Rattle.std.specs.declared.cmp.Ordering.{Ordering}
-use Rattle.std.specs.declared.cmp.Ordering.TheVariants as ordering
 use Rattle.std.proofs.Math.Bool.{or-false, and-true}
 use Rattle.std.proofs.lemmas.Bool.{cases_Bool}
-use Rattle.vx_spec.specs.Ascending.{IsAscending}
 use Rattle.vx_scheme.specs.declared.domain.Domain.{Domain}
 use Rattle.vx_scheme.specs.declared.span.Cut.{Cut}
 use Rattle.vx_scheme.specs.declared.span.Span.{Span}
-use Rattle.vx_scheme.specs.Cuts.{stands_below, cut_below, cut_cmp, in_spans, cuts_of, starts_of, spans_of}
+use Rattle.vx_scheme.specs.Cuts.{stands_below, cut_below, in_spans, cuts_of, starts_of, spans_of}
 use Rattle.vx_scheme.specs.Native.{BackLaws, PrintsSpans, IsSpans, EachVersion, by_domain}
 use Rattle.vx_scheme.proofs.CutLaws.{cut_below-lower}
 use Rattle.deb_scheme.specs.Version.{Fields}
@@ -23,6 +20,7 @@ use Rattle.relation_ranges.specs.Deb.Holds.{is_so, holds}
 use Rattle.vx_range.specs.Making.{terms_hold}
 use Rattle.vx_range.specs.Spans.{is_point}
 use Rattle.vx_range.specs.Laws.Points as points
+use Rattle.relation_ranges.specs.Laws.Gaps.{IsRising, after_cut, equal_of, point_says, spans_are, spans_say}
 use Rattle.relation_ranges.specs.Range.{relation_holds}
 use Rattle.relation_ranges.specs.Deb.Range.{IsRange, In}
 use Rattle.relation_ranges.specs.Laws.DebRange.{one_reads}
@@ -32,31 +30,6 @@ use Rattle.relation_ranges.specs.Laws.DebWritten.{TermIs, written_read}
 -- the relation holds of the version
 abbrev is_held : DebRelation → Fields → Bool
 is_held = relation_holds holds
-
--- ---- truth values
-
-mid : (x bd be af : Bool) → (bd ≡ true → x ≡ true) → (be ≡ true → bd ≡ true) → (bd ≡ false → af ≡ true) → ((x && not bd) || (be && af)) ≡ (x && ((not bd || be) && af))
-mid false false false af f g h = refl
-mid false false true af f g h = absurd (cc (g refl))
-mid false true be af f g h = absurd (cc (f refl))
-mid true false false af f g h = sym (h refl)
-mid true false true af f g h = absurd (cc (g refl))
-mid true true be af f g h = refl
-
-edge : (x bd be : Bool) → (bd ≡ true → x ≡ true) → (be ≡ true → bd ≡ true) → ((x && not bd) || be) ≡ (x && (not bd || be))
-edge false false false f g = refl
-edge false false true f g = absurd (cc (g refl))
-edge false true be f g = absurd (cc (f refl))
-edge true bd be f g = refl
-
-not_both : (a b : Bool) → (a ≡ true → b ≡ true) → b ≡ false → a ≡ false
-not_both false b f e = refl
-not_both true b f e = absurd (cc (f refl, e))
-
-equal_of : (o : Ordering) → is_eq o ≡ true → o ≡ ordering.Equal
-equal_of ordering.Less e = cc e
-equal_of ordering.Equal e = refl
-equal_of ordering.Greater e = cc e
 
 -- ---- bounds
 
@@ -94,21 +67,15 @@ upper_one v cut = or-false _ ∙ upper_says v cut
 
 -- ---- behind an upper bound, with the cuts behind it
 
--- whether the version is in what the terms behind the cut ask
-abbrev after_cut : Fields → Cut Fields → List (Cut Fields) → Bool
-after_cut v d [] = not (cut_below order_of d v)
-after_cut v d (e ∷ []) = not (cut_below order_of d v) || cut_below order_of e v
-after_cut v d (e ∷ f ∷ cuts) = (not (cut_below order_of d v) || cut_below order_of e v) && after_cut v f cuts
-
 -- the lower bound behind a gap, of which a hole has the version before it
-hole_says : (c d : Bool) (a b v : Fields) → ((not c && d) && is_eq (order_of a b)) ≡ true → is_gt (order_of v a) ≡ stands_below (order_of b v) d
-hole_says false true a b v is = ap is_gt (alike_right order_total a b v (equal_of (order_of a b) is)) ∙ sym (over_after b v)
-hole_says false false a b v is = absurd (cc is)
-hole_says true d a b v is = absurd (cc is)
+later_says : (c d : Bool) (a b v : Fields) → ((not c && d) && is_eq (order_of a b)) ≡ true → is_gt (order_of v a) ≡ stands_below (order_of b v) d
+later_says false true a b v is = ap is_gt (alike_right order_total a b v (equal_of (order_of a b) is)) ∙ sym (over_after b v)
+later_says false false a b v is = absurd (cc is)
+later_says true d a b v is = absurd (cc is)
 
 end_says : (v : Fields) (d e : Cut Fields) → is_held (gap_end d e) v ≡ cut_below order_of e v
 end_says v d e = elim (cases_Bool (is_point order_of d e)) [
-  | inl is ↦ rw is (hole_says d.after e.after d.version e.version v is)
+  | inl is ↦ rw is (later_says d.after e.after d.version e.version v is)
   | inr other ↦ rw other (lower_says v e)
 ]
 
@@ -128,85 +95,41 @@ upper_end_says v (Some c) d = elim (cases_Bool (is_point order_of c d)) [
 gap_says : (v : Fields) (before : Option (Cut Fields)) (d e : Cut Fields) → (is_held (upper_end before d) v || (is_held (gap_end d e) v || false)) ≡ (not (cut_below order_of d v) || cut_below order_of e v)
 gap_says v before d e = λ i. upper_end_says v before d i || (or-false _ ∙ end_says v d e) i
 
-behind_says : (v : Fields) (before : Option (Cut Fields)) (d : Cut Fields) (cuts : List (Cut Fields)) → terms_hold is_held (terms_behind before (Some d) (spans_of false cuts)) v ≡ after_cut v d cuts
+behind_says : (v : Fields) (before : Option (Cut Fields)) (d : Cut Fields) (cuts : List (Cut Fields)) → terms_hold is_held (terms_behind before (Some d) (spans_of false cuts)) v ≡ after_cut order_of v d cuts
 behind_says v before d [] = and-true _ ∙ or-false _ ∙ upper_end_says v before d
 behind_says v before d (e ∷ []) = and-true _ ∙ gap_says v before d e
 behind_says v before d (e ∷ f ∷ cuts) = λ i. gap_says v before d e i && behind_says v (Some e) f cuts i
 
--- the spans between the cuts
-abbrev inside : Fields → List (Cut Fields) → Bool
-inside v [] = false
-inside v (e ∷ []) = cut_below order_of e v
-inside v (e ∷ f ∷ cuts) = (cut_below order_of e v && not (cut_below order_of f v)) || inside v cuts
-
-spans_say : (v : Fields) (cuts : List (Cut Fields)) → in_spans order_of (spans_of false cuts) v ≡ inside v cuts
-spans_say v [] = refl
-spans_say v (e ∷ []) = or-false _ ∙ and-true _
-spans_say v (e ∷ f ∷ cuts) = λ i. (cut_below order_of e v && not (cut_below order_of f v)) || spans_say v cuts i
-
-abbrev IsRising : List (Cut Fields) → Type 0
-IsRising cuts = IsAscending (cut_cmp order_of) cuts
-
-true_after : (v : Fields) (d : Cut Fields) (cuts : List (Cut Fields)) → IsRising (d ∷ cuts) → cut_below order_of d v ≡ false → after_cut v d cuts ≡ true
-true_after v d [] rising none = rw none refl
-true_after v d (e ∷ []) rising none = rw none refl
-true_after v d (e ∷ f ∷ cuts) rising none =
-    let further = not_both (cut_below order_of f v) (cut_below order_of d v) (cut_below-lower order_of order_total d f v rising.0.1.0) none in
-    rw none (true_after v f cuts rising.1.1 further)
-
--- the open span, where x holds, up to d, and those behind
-spans_are : (v : Fields) (x : Bool) (d : Cut Fields) (cuts : List (Cut Fields)) → (cut_below order_of d v ≡ true → x ≡ true) → IsRising (d ∷ cuts)
-    → ((x && not (cut_below order_of d v)) || inside v cuts) ≡ (x && after_cut v d cuts)
-spans_are v x d [] above rising = or-false _
-spans_are v x d (e ∷ []) above rising =
-    edge x (cut_below order_of d v) (cut_below order_of e v) above (cut_below-lower order_of order_total d e v rising.0.0)
-spans_are v x d (e ∷ f ∷ cuts) above rising =
-    let lower = cut_below-lower order_of order_total d e v rising.0.0 in
-    let next = cut_below-lower order_of order_total e f v rising.1.0.0 in
-    let further : cut_below order_of d v ≡ false → after_cut v f cuts ≡ true = λ none. true_after v f cuts rising.1.1 (not_both (cut_below order_of f v) (cut_below order_of d v) (cut_below-lower order_of order_total d f v rising.0.1.0) none) in
-    ap (λ r. (x && not (cut_below order_of d v)) || r) (spans_are v (cut_below order_of e v) f cuts next rising.1.1)
-    ∙ mid x (cut_below order_of d v) (cut_below order_of e v) (after_cut v f cuts) above lower further
-
 -- ---- a single span
-
-point_by : (c d v : Fields) → order_of c d ≡ ordering.Equal → (stands_below (order_of c v) false && not (stands_below (order_of d v) true)) ≡ is_eq (order_of v c)
-point_by c d v same =
-    (λ i. over_before c v i && (under_after d v ∙ ap is_le (sym (alike_right order_total c d v same))) i) ∙ points.point_is (order_of v c)
-
-point_says : (c d : Bool) (a b v : Fields) → ((not c && d) && is_eq (order_of a b)) ≡ true
-    → (stands_below (order_of a v) c && not (stands_below (order_of b v) d)) ≡ is_eq (order_of v a)
-point_says false true a b v is = point_by a b v (equal_of (order_of a b) is)
-point_says false false a b v is = absurd (cc is)
-point_says true d a b v is = absurd (cc is)
 
 pair_says : (v : Fields) (c d : Cut Fields) → terms_hold is_held (single_terms (Some c) (Some d)) v ≡ (cut_below order_of c v && not (cut_below order_of d v))
 pair_says v c d = elim (cases_Bool (is_point order_of c d)) [
-  | inl is ↦ rw is (and-true _ ∙ or-false _ ∙ sym (point_says c.after d.after c.version d.version v is))
+  | inl is ↦ rw is (and-true _ ∙ or-false _ ∙ sym (point_says order_of order_total c.after d.after c.version d.version v is))
   | inr other ↦ rw other (λ i. lower_one v c i && (and-true (is_held (upper_relation d) v || false) ∙ upper_one v d) i)
 ]
 
 -- ---- all spans
 
-spans_hold : (v : Fields) (starts : Bool) (cuts : List (Cut Fields)) → IsRising cuts → spans_of starts cuts ≢ [] → in_spans order_of (spans_of starts cuts) v ≡ terms_hold is_held (back_terms (spans_of starts cuts)) v
+spans_hold : (v : Fields) (starts : Bool) (cuts : List (Cut Fields)) → IsRising order_of cuts → spans_of starts cuts ≢ [] → in_spans order_of (spans_of starts cuts) v ≡ terms_hold is_held (back_terms (spans_of starts cuts)) v
 spans_hold v false [] rising some = absurd (some refl)
 spans_hold v false (c ∷ []) rising some = or-false _ ∙ and-true _ ∙ sym (and-true _ ∙ lower_one v c)
 spans_hold v false (c ∷ d ∷ []) rising some = or-false _ ∙ sym (pair_says v c d)
 spans_hold v false (c ∷ d ∷ e ∷ []) rising some =
-    ap (λ r. (cut_below order_of c v && not (cut_below order_of d v)) || r) (spans_say v (e ∷ []))
-    ∙ spans_are v (cut_below order_of c v) d (e ∷ []) (cut_below-lower order_of order_total c d v rising.0.0) rising.1
+    ap (λ r. (cut_below order_of c v && not (cut_below order_of d v)) || r) (spans_say order_of order_total v (e ∷ []))
+    ∙ spans_are order_of order_total v (cut_below order_of c v) d (e ∷ []) (cut_below-lower order_of order_total c d v rising.0.0) rising.1
     ∙ sym (λ i. lower_one v c i && behind_says v (Some c) d (e ∷ []) i)
 spans_hold v false (c ∷ d ∷ e ∷ f ∷ cuts) rising some =
-    ap (λ r. (cut_below order_of c v && not (cut_below order_of d v)) || r) (spans_say v (e ∷ f ∷ cuts))
-    ∙ spans_are v (cut_below order_of c v) d (e ∷ f ∷ cuts) (cut_below-lower order_of order_total c d v rising.0.0) rising.1
+    ap (λ r. (cut_below order_of c v && not (cut_below order_of d v)) || r) (spans_say order_of order_total v (e ∷ f ∷ cuts))
+    ∙ spans_are order_of order_total v (cut_below order_of c v) d (e ∷ f ∷ cuts) (cut_below-lower order_of order_total c d v rising.0.0) rising.1
     ∙ sym (λ i. lower_one v c i && behind_says v (Some c) d (e ∷ f ∷ cuts) i)
 spans_hold v true [] rising some = refl
 spans_hold v true (c ∷ []) rising some = or-false _ ∙ sym (and-true _ ∙ upper_one v c)
 spans_hold v true (c ∷ e ∷ []) rising some =
-    ap (λ r. not (cut_below order_of c v) || r) (spans_say v (e ∷ []))
-    ∙ spans_are v true c (e ∷ []) (λ _. refl) rising ∙ sym (behind_says v None c (e ∷ []))
+    ap (λ r. not (cut_below order_of c v) || r) (spans_say order_of order_total v (e ∷ []))
+    ∙ spans_are order_of order_total v true c (e ∷ []) (λ _. refl) rising ∙ sym (behind_says v None c (e ∷ []))
 spans_hold v true (c ∷ e ∷ f ∷ cuts) rising some =
-    ap (λ r. not (cut_below order_of c v) || r) (spans_say v (e ∷ f ∷ cuts))
-    ∙ spans_are v true c (e ∷ f ∷ cuts) (λ _. refl) rising ∙ sym (behind_says v None c (e ∷ f ∷ cuts))
+    ap (λ r. not (cut_below order_of c v) || r) (spans_say order_of order_total v (e ∷ f ∷ cuts))
+    ∙ spans_are order_of order_total v true c (e ∷ f ∷ cuts) (λ _. refl) rising ∙ sym (behind_says v None c (e ∷ f ∷ cuts))
 
 -- the terms are of one relation or two, of versions
 end_is : (d e : Cut Fields) → IsVersion d.version → IsVersion e.version → IsVersion (gap_end d e).version

@@ -1,14 +1,10 @@
--- The text of terms, term by term.
-use Rattle.std.specs.Prelude.{ℕ, Bool, true, false, List, [], ◌∷◌, ◌++◌, codes}
+-- The text of Debian's terms, term by term.
+use Rattle.std.specs.Prelude.{ℕ, Bool, List}
+use Rattle.deb_scheme.specs.Writing.{normal}
+use Rattle.relation_ranges.specs.Deb.Operators.{signs_of}
 use Rattle.relation_ranges.specs.Deb.Reading.{DebRelation}
-use Rattle.relation_ranges.specs.Deb.Back.{term_text}
-
--- what stands before a term: a comma where a term stands before it
-abbrev pub comma : Bool → List ℕ
-comma false = []
-comma true = codes ", "
+use Rattle.relation_ranges.specs.Steps.Terms as terms
 
 -- the terms behind others, or where none stand before them
 abbrev pub appended : Bool → List (List DebRelation) → List ℕ
-appended some [] = []
-appended some (term ∷ terms) = comma some ++ (term_text term ++ appended true terms)
+appended = terms.appended signs_of normal

@@ -1,8 +1,7 @@
-use crate::memory_sink::MemorySink;
-use crate::plain_source::PlainSource;
 use crate::running::run;
 use crate::status::Status;
 use std::alloc::{AllocError, Global};
+use vx_lines::{MemorySink, PlainSource};
 
 // The words of a line, with a semicolon between each two. The empty line has none.
 pub(super) fn words_of(alloc: Global, line: &str) -> Result<Vec<String>, AllocError> {

@@ -31,7 +31,7 @@ canon;vers:npm/2.0.0|==1.0.0$no\t11 BadVers\tVersion 2
 canon;vers:npm/2.0.0|1.0$no\t11 BadVers\tVersion 2
 canon;vers:npm/>1.0.0|=2.0.0|>3.0.0|<4.0.0|<=5.0.0$ok\tvers:npm/>1.0.0|<=5.0.0
 canon;vers:npm/!=2.0.0|!=1.0.0$ok\tvers:npm/!=1.0.0|!=2.0.0
-canon;vers:rpm/>=$no\t0 NotBuilt\t-
+canon;vers:nuget/>=$no\t0 NotBuilt\t-
 from-vers;all;vers:npm/1.0.0|>=1.5.0|!=3.0.0$ok\t1.0.0 || >=1.5.0 <3.0.0 || >3.0.0
 from-vers;-;vers:npm/*$ok\t*
 from-vers;releases;vers:npm/<2.0.0$ok\t<2.0.0

@@ -1,11 +1,10 @@
 use super::rows::{first_wrong, is_answered, words_of};
-use crate::fields::{fields_of, joined_length};
-use crate::memory_sink::MemorySink;
-use crate::plain_source::PlainSource;
 use crate::running::run;
 use crate::status::Status;
+use crate::words::joined_length;
 use std::alloc::{AllocError, Global};
 use std::test::Fail;
+use vx_lines::{MemorySink, PlainSource};
 
 // A text of the same byte many times, between two others.
 fn long_text(
@@ -67,7 +66,7 @@ to-vers;foo;bar;1$no\t4 BadScheme\t-
 to-vers;npm;bar;1$no\t5 BadDomain\t-
 to-vers;pypi;bar;>1$no\t5 BadDomain\t-
 to-vers;pypi;-;>1$no\t0 NotBuilt\t-
-to-vers;cargo;all;>1$no\t0 NotBuilt\t-
+to-vers;nuget;all;>1$no\t0 NotBuilt\t-
 to-vers;npm;-;^1.2.3$ok\tvers:npm/>=1.2.3|<2.0.0-0
 check;pkg:npm/x@1;vers:npm/*$no\t0 NotBuilt\t-
 canon;vers:npm/*$ok\tvers:npm/*";
@@ -94,7 +93,6 @@ batch;x";
 const COMMANDS: &str = "\
 drill;0001
 drill;1000000
-batch
 purl;0
 from-vers;all;vers:npm/*
 has;vers:npm/*;1.0.0
@@ -155,15 +153,11 @@ fn a_package_url_may_take_the_whole_line(rt: HostRuntime) -> Result<(), Fail> {
 }
 
 #[test]
-fn fields_are_counted_with_a_tab_between(rt: HostRuntime) -> Result<(), Fail> {
+fn words_are_counted_with_a_tab_between(rt: HostRuntime) -> Result<(), Fail> {
     let alloc = rt.alloc();
     for (line, length) in [("", 0), ("a", 1), ("ab;;c", 5)] {
         let words = words_of(alloc, line)?;
-        let made = fields_of(alloc, &words);
-        assert!(rt; made.is_ok());
-        if let Ok(fields) = made {
-            assert_eq!(rt; joined_length(&fields), length);
-        }
+        assert_eq!(rt; joined_length(words.as_slice()), length);
     }
     Ok(())
 }

@@ -1,7 +1,7 @@
 -- What is found on the way through items (the pieces of a group, or the groups of a text): the first refusal of each kind,
 -- and, where there is none, what the items make. `Syntax`, `Past`, `Endless` and `TooHigh` say of one item what it is
 -- refused for, and `R` what it is read as.
-use Rattle.std.specs.Prelude.{◌≡◌, ◌++◌, ℕ, List, Option, Some, None}
+use Rattle.std.specs.Prelude.{◌≡◌, ◌++◌, ℕ, List, [], ◌∷◌, Option, Some, None}
 use Rattle.std.specs.Option.{option_or}
 use Rattle.vx_spec.specs.Each.{AreEach}
 use Rattle.vx_spec.specs.Firsts.{IsFirst}
@@ -14,7 +14,8 @@ use Rattle.vx_range.specs.declared.making.Outcome.{Outcome}
 use Rattle.vx_range.specs.declared.making.Outcome.TheVariants as made_of
 use Rattle.vx_range.specs.Pieces.{Written}
 use Rattle.vx_range.specs.Reading.{IsNoConstruct, IsPastNumeral}
-use Rattle.vx_range.specs.Making.{mark_behind, IsEndless, IsTooHigh}
+use Rattle.vx_range.specs.Making.{mark_behind, marks_behind, made_each, groups_from, IsEndless, IsTooHigh}
+use Rattle.vx_range.specs.Steps.Marks.{marks_behind_all}
 
 -- the first refusal of a kind: the one before, or else the one that comes now
 pub record IsNoted {X : Type 0} (Refuses : Option X → Type 0) (old new : Option X) : Type 0 where
@@ -77,6 +78,19 @@ module _ {K C : Type 0} (ReadsAs : Written K → C → Type 0) (IsPast : Written
 -- the spans of a construct are appended, and the marks run on
 abbrev pub AppendsSpans : {V C : Type 0} → (ℕ → C → List (Span V)) → ℕ → ℕ → List (Span V) → List (Span V) → C → Type 0
 AppendsSpans spans mark next before out construct = (out ≡ before ++ spans mark construct) × (next ≡ mark_behind spans mark construct)
+
+-- the spans of a construct are added to what those before it became together, and the marks run on
+abbrev pub AddsSpans : {V C G : Type 0} → (List (List (Span V)) → G) → (ℕ → C → List (Span V)) → ℕ → ℕ → G → G → C → Type 0
+AddsSpans {V = V} together spans mark next before out construct =
+    ((each : List (List (Span V))) → before ≡ together each → out ≡ together (each ++ spans mark construct ∷ [])) × (next ≡ mark_behind spans mark construct)
+
+-- what the spans of a group's constructs became together, and the mark behind them
+abbrev pub IsGroupMade : {V C G : Type 0} → (List (List (Span V)) → G) → (ℕ → C → List (Span V)) → ℕ → ℕ → G → List C → Type 0
+IsGroupMade together spans mark next shape group = (shape ≡ together (made_each spans mark group)) × (next ≡ marks_behind spans mark group)
+
+-- what the groups became, and the mark behind them
+abbrev pub AreGroupsMade : {V C G : Type 0} → (List (List (Span V)) → G) → (ℕ → C → List (Span V)) → ℕ → ℕ → List G → List (List C) → Type 0
+AreGroupsMade together spans mark next shapes all = (shapes ≡ groups_from spans together mark all) × (next ≡ marks_behind_all spans mark all)
 
 -- the first item that is no construct begins at the place of a fault of syntax
 abbrev pub IsSyntaxOf : {A : Type 0} → (A → Option ℕ → Type 0) → List A → RangeFault → Type 0

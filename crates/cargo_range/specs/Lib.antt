@@ -1,0 +1,12 @@
+pub mod Version
+pub mod Order
+pub mod Spelling
+pub mod Writing
+pub mod Reading
+pub mod Holds
+pub mod Spans
+pub mod Refusals
+pub mod Range
+pub mod Back
+pub mod Laws
+pub mod Steps

@@ -1,0 +1,5 @@
+pub mod Begun
+pub mod Pushed
+pub mod Forms
+pub mod Terms
+pub mod Intervals

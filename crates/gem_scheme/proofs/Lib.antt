@@ -1,0 +1,7 @@
+pub mod Bytes
+pub mod Cutting
+pub mod PastLaws
+pub mod Pushed
+pub mod RowLaws
+pub mod SegmentLaws
+pub mod TokenLaws

@@ -1,0 +1,6 @@
+pub mod Version
+pub mod Order
+pub mod Spelling
+pub mod Writing
+pub mod Laws
+pub mod Steps

@@ -1,0 +1,5 @@
+pub mod Apart
+pub mod Begun
+pub mod Rows
+pub mod Tokens
+pub mod Written

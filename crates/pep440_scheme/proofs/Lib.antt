@@ -1,0 +1,9 @@
+pub mod PartLaws
+pub mod WordLaws
+pub mod FoundSuffixes
+pub mod Found
+pub mod OrderLaws
+pub mod Pushed
+pub mod NextLaws
+pub mod BumpLaws
+pub mod PastLaws

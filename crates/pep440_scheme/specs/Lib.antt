@@ -1,0 +1,9 @@
+pub mod Version
+pub mod Order
+pub mod Words
+pub mod Spelling
+pub mod Writing
+pub mod Next
+pub mod Past
+pub mod Laws
+pub mod Steps

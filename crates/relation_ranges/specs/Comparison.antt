@@ -1,0 +1,33 @@
+-- The operators that compare with one version, as RubyGems and RPM write them: their signs, the orders that they ask for,
+-- and their spans.
+use Rattle.std.specs.Prelude.{ℕ, Bool, List, codes}
+use Rattle.std.specs.Ordering.{is_eq, is_lt, is_le, is_gt, is_ge}
+use Rattle.std.specs.declared.cmp.Ordering.{Ordering}
+use Rattle.vx_scheme.specs.declared.span.Span.{Span}
+use Rattle.vx_range.specs.Spans.{point, from, above, below, up_to}
+use Rattle.relation_ranges.specs.declared.comparison.Comparison.{Comparison}
+use Rattle.relation_ranges.specs.declared.comparison.Comparison.TheVariants.{Less, LessOrEqual, Equal, GreaterOrEqual, Greater}
+
+-- how an operator is written
+abbrev pub signs_of : Comparison → List ℕ
+signs_of Less = codes "<"
+signs_of LessOrEqual = codes "<="
+signs_of Equal = codes "="
+signs_of GreaterOrEqual = codes ">="
+signs_of Greater = codes ">"
+
+-- how a version has to compare with the operator's
+abbrev pub is_so : Comparison → Ordering → Bool
+is_so Less order = is_lt order
+is_so LessOrEqual order = is_le order
+is_so Equal order = is_eq order
+is_so GreaterOrEqual order = is_ge order
+is_so Greater order = is_gt order
+
+-- `(-, V)`, `(-, V]`, `[V, V]`, `[V, -)` or `(V, -)`
+abbrev pub spans_of : {V : Type 0} → ℕ → Comparison → V → List (Span V)
+spans_of mark Less bound = below mark bound
+spans_of mark LessOrEqual bound = up_to mark bound
+spans_of mark Equal bound = point mark bound
+spans_of mark GreaterOrEqual bound = from mark bound
+spans_of mark Greater bound = above mark bound

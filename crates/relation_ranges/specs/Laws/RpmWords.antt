@@ -1,0 +1,89 @@
+-- RPM's relations are words: what is written of terms is read as these terms.
+use Rattle.std.proofs.Common.{◌≡◌, ℕ, true, false, List, ◌∷◌, ◌++◌, refl, sym, subst, Option, Some, None}
+use Rattle.std.specs.List.{list_all, AllByRecursion}
+use Rattle.std.specs.Char.{is_ascii_digit}
+use Rattle.std.proofs.Common.{arith}
+use Rattle.std.proofs.lemmas.Bool.Decides.{nat_tests}
+use Rattle.vx_spec.specs.Marks.{in_front, marked}
+use Rattle.vx_spec.proofs.TextLaws.{each_append, each_by_test, test_by_each}
+use Rattle.rpm_scheme.specs.Version.{Fields, hyphen}
+use Rattle.rpm_scheme.specs.Spelling.{IsVersion, Spells, colon, is_epoch, is_part, is_part_byte, is_release_part}
+use Rattle.rpm_scheme.specs.Writing.{normal}
+use Rattle.rpm_scheme.specs.Laws.Texts.{rpm_texts}
+use Rattle.rpm_scheme.specs.Laws.Unique.{numeral_bytes, part_bytes}
+use Rattle.relation_ranges.specs.declared.comparison.Comparison.{Comparison}
+use Rattle.relation_ranges.specs.declared.comparison.Comparison.TheVariants.{Less, LessOrEqual, Equal, GreaterOrEqual, Greater}
+use Rattle.relation_ranges.specs.Comparison.{signs_of}
+use Rattle.relation_ranges.specs.Deb.Operators.{is_sign}
+use Rattle.relation_ranges.specs.Rpm.Reading.{HasSigns, RpmRelation, Reads}
+use Rattle.relation_ranges.specs.Rpm.Back.{range_text}
+use Rattle.relation_ranges.specs.Laws.Written as written
+use Rattle.relation_ranges.specs.Laws.Written.{IsWord, IsWritable, is_word_byte, some_text}
+
+-- ---- the bytes of a version's text
+
+abbrev IsWordByte : ℕ → Type 0
+IsWordByte b = is_word_byte b ≡ true
+
+digit_word : (b : ℕ) → is_ascii_digit b ≡ true → is_word_byte b ≡ true
+digit_word b is = grind (arith, nat_tests)
+
+part_word : (b : ℕ) → is_part_byte b ≡ true → is_word_byte b ≡ true
+part_word b is = grind (arith, nat_tests)
+
+part_words : (part : List ℕ) → is_part part ≡ true → AllByRecursion IsWordByte part
+part_words part is = each_by_test IsWordByte is_part_byte part part_word (part_bytes part is)
+
+release_words : (part : Option (List ℕ)) → is_release_part part ≡ true → AllByRecursion IsWordByte (marked hyphen part)
+release_words None is = tt
+release_words (Some part) is = (refl, part_words part is)
+
+front_words : (part : Option (List ℕ)) (rest : List ℕ) → is_epoch part ≡ true → AllByRecursion IsWordByte rest → AllByRecursion IsWordByte (in_front colon part rest)
+front_words None rest is all = all
+front_words (Some part) rest is all = each_append IsWordByte part (colon ∷ rest) (each_by_test IsWordByte is_ascii_digit part digit_word (numeral_bytes part is)) (refl, all)
+
+text_words : (v : Fields) → IsVersion v → AllByRecursion IsWordByte (normal v)
+text_words v is =
+    let p = is.parts in
+    let rest = each_append IsWordByte p.version (marked hyphen p.release) (part_words p.version is.form.version) (release_words p.release is.form.release) in
+    subst (AllByRecursion IsWordByte) (sym is.joined) (front_words p.epoch (p.version ++ marked hyphen p.release) is.form.epoch rest)
+
+text_word : (v : Fields) → IsVersion v → IsWord (normal v)
+text_word v is = record {
+  bytes = test_by_each IsWordByte is_word_byte (normal v) (λ b h. h) (text_words v is);
+  some = some_text (normal v) (rpm_texts.normal_spells v is).not_empty;
+}
+
+-- ---- the signs
+
+signs_all : (o : Comparison) → list_all is_sign (signs_of o) ≡ true
+signs_all Less = refl
+signs_all LessOrEqual = refl
+signs_all Equal = refl
+signs_all GreaterOrEqual = refl
+signs_all Greater = refl
+
+signs_word : (o : Comparison) → IsWord (signs_of o)
+signs_word Less = record { bytes = refl; some = refl }
+signs_word LessOrEqual = record { bytes = refl; some = refl }
+signs_word Equal = record { bytes = refl; some = refl }
+signs_word GreaterOrEqual = record { bytes = refl; some = refl }
+signs_word Greater = record { bytes = refl; some = refl }
+
+rpm_table : IsWritable is_sign signs_of HasSigns Spells normal IsVersion
+rpm_table = record {
+  no_blank = refl;
+  signs_all = signs_all;
+  signs_word = signs_word;
+  signs_are = λ operator. refl;
+  text_word = text_word;
+  spelled = λ v is. is;
+}
+
+-- one relation, of a version
+abbrev pub TermIs : List RpmRelation → Type 0
+TermIs = written.IsTerm IsVersion false
+
+-- What is written of terms of one relation each is read as these terms.
+pub written_read : (terms : List (List RpmRelation)) → AllByRecursion TermIs terms → Reads (range_text terms) terms
+written_read terms all = written.written_read is_sign signs_of HasSigns Spells normal IsVersion rpm_table false terms all

@@ -1,0 +1,71 @@
+ghost use Rattle.std.specs.Prelude.{◌≡◌, ◌+◌, ◌++◌, MatchOption, OnOk, length};
+ghost use Rattle.vx_scheme.specs.Cuts.{cuts_of};
+ghost use Rattle.relation_ranges.specs.Comparison.{signs_of, spans_of};
+
+use std::alloc::Global;
+use vx_range::{push_above, push_below, push_from, push_point, push_up_to};
+use vx_scheme::{NoMemory, Scheme, Spans};
+
+/// An operator that compares with one version, as RubyGems and RPM write it.
+#[derive(Debug, Clone, Copy, PartialEq, Eq)]
+pub enum Comparison {
+    /// `<`
+    Less,
+    /// `<=`
+    LessOrEqual,
+    /// `=`
+    Equal,
+    /// `>=`
+    GreaterOrEqual,
+    /// `>`
+    Greater,
+}
+
+/// The comparison that is written so; `None` exactly where none is.
+pub(crate) fn comparison_of(signs: &[u8]) -> Option<Comparison>
+    ensures { MatchOption result
+        ((comparison : Comparison) → ¬ (signs.now ≡ signs_of comparison))
+        (λ comparison. signs.now ≡ signs_of comparison) }
+{
+    match signs {
+        b"<" => Some(Comparison::Less),
+        b"<=" => Some(Comparison::LessOrEqual),
+        b"=" => Some(Comparison::Equal),
+        b">=" => Some(Comparison::GreaterOrEqual),
+        b">" => Some(Comparison::Greater),
+        _ => None,
+    }
+}
+
+/// How the comparison is written.
+pub(crate) fn signs(comparison: Comparison) -> &'static str
+    ensures { result.now ≡ signs_of comparison }
+{
+    match comparison {
+        Comparison::Less => "<",
+        Comparison::LessOrEqual => "<=",
+        Comparison::Equal => "=",
+        Comparison::GreaterOrEqual => ">=",
+        Comparison::Greater => ">",
+    }
+}
+
+/// Appends the span of a comparison with a version.
+pub(crate) fn push_compared<S: Scheme>(
+    alloc: Global,
+    comparison: Comparison,
+    version: S::Version,
+    marks: &mut u64,
+    out: &mut Spans<S::Version>,
+) -> Result<(), NoMemory>
+    ensures span { OnOk result (out.new ≡ out.old ++ spans_of marks.old comparison version) }
+    ensures marks { OnOk result (marks.new ≡ marks.old + length (cuts_of (spans_of marks.old comparison version))) }
+{
+    match comparison {
+        Comparison::Less => push_below(marks, version, out),
+        Comparison::LessOrEqual => push_up_to(marks, version, out),
+        Comparison::Equal => push_point::<S>(alloc, marks, version, out),
+        Comparison::GreaterOrEqual => push_from(marks, version, out),
+        Comparison::Greater => push_above(marks, version, out),
+    }
+}

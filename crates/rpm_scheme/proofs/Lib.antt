@@ -1,0 +1,5 @@
+pub mod Bytes
+pub mod Cutting
+pub mod PastLaws
+pub mod ReleaseLaws
+pub mod TokenLaws

@@ -1,0 +1,5 @@
+use Rattle.rpm_scheme.proofs.TokenLaws.{word_utf8}
+use Rattle.rpm_scheme.proofs.letters.push_word.Goals as goal
+
+pub unreachable-requires : goal.unreachable-requires
+unreachable-requires c = c.in-Err.ensures.cases.0 (word_utf8 c.args.word.now c.requires)

@@ -1,0 +1,13 @@
+use Rattle.std.proofs.Common.{[], sym, subst}
+use Rattle.vx_spec.proofs.RowLaws.{rows_decide}
+use Rattle.vx_order.specs.Letters.{letters_cmp}
+use Rattle.vx_order.proofs.LetterLaws.{letters_total}
+use Rattle.rpm_scheme.specs.Version.{end_rank}
+use Rattle.rpm_scheme.specs.Order.{key, AnswersKeys}
+use Rattle.rpm_scheme.proofs.order.compare_versions.Goals as goal
+
+pub returns-clause-places : goal.returns-clause-places
+returns-clause-places c =
+    let a = c.args.a.now in
+    let b = c.args.b.now in
+    subst (AnswersKeys a b) (sym c.compare_parts.ensures) (rows_decide (letters_cmp end_rank) (letters_total end_rank) [] (key a) (key b))

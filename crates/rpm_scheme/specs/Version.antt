@@ -1,0 +1,119 @@
+-- A version after rpm-version(7): its fields, with numbers of any size and texts as their bytes; the letters of a part of
+-- its text; the version without its release; and the limit of numerals.
+use Rattle.std.specs.Prelude.{◌≡◌, ◌≢◌, ℕ, zero, suc, ◌==◌, ◌<◌, ◌^◌, not, Bool, if◌then◌else◌, List, [], ◌∷◌, ◌++◌, length, Option, Some, None}
+use Rattle.std.specs.Char.{is_ascii_alphabetic, is_ascii_digit}
+use Rattle.std.specs.List.{AllByRecursion}
+use Rattle.vx_spec.specs.Numerals.{value}
+use Rattle.vx_spec.specs.Runs.{run, past}
+use Rattle.vx_order.specs.declared.letter.Letter.{Letter}
+
+-- the fields: the text as it is written, the epoch, the letters of the version, and those of the release where there is one
+pub record Fields : Type 0 where
+  pub text : List ℕ
+  pub epoch : ℕ
+  pub version : List Letter
+  pub release : Option (List Letter)
+
+-- the byte '~'
+abbrev pub tilde : ℕ
+tilde = 126
+
+-- the byte '^'
+abbrev pub caret : ℕ
+caret = 94
+
+-- The ranks of letters, from the lowest: '~', the end of a list, '^', a run of ASCII letters, a number.
+abbrev pub tilde_rank : ℕ
+tilde_rank = 0
+
+abbrev pub end_rank : ℕ
+end_rank = 1
+
+abbrev pub caret_rank : ℕ
+caret_rank = 2
+
+abbrev pub word_rank : ℕ
+word_rank = 3
+
+abbrev pub number_rank : ℕ
+number_rank = 4
+
+-- a run of digits, by its value
+abbrev pub number_letter : List ℕ → Letter
+number_letter digits = record { rank = number_rank; number = value digits; text = [] }
+
+-- a run of letters, by its bytes
+abbrev pub word_letter : List ℕ → Letter
+word_letter word = record { rank = word_rank; number = 0; text = word }
+
+-- '~' or '^'
+abbrev pub sign_letter : ℕ → Letter
+sign_letter rank = record { rank = rank; number = 0; text = [] }
+
+-- A byte that is neither letter nor digit: '~' and '^' are tokens, and any other byte only parts tokens.
+abbrev pub sign_letters : ℕ → List Letter
+sign_letters b = if b == tilde then sign_letter tilde_rank ∷ [] else (if b == caret then sign_letter caret_rank ∷ [] else [])
+
+-- the letter of the token at the front of a part, each run as long as it can be; none where a byte stands there that parts
+-- tokens
+abbrev pub first_letters : List ℕ → List Letter
+first_letters [] = []
+first_letters (b ∷ part) =
+    if is_ascii_digit b
+    then number_letter (run is_ascii_digit (b ∷ part)) ∷ []
+    else (if is_ascii_alphabetic b then word_letter (run is_ascii_alphabetic (b ∷ part)) ∷ [] else sign_letters b)
+
+-- what stands behind that token or byte
+abbrev pub behind_first : List ℕ → List ℕ
+behind_first [] = []
+behind_first (b ∷ part) =
+    if is_ascii_digit b
+    then past is_ascii_digit (b ∷ part)
+    else (if is_ascii_alphabetic b then past is_ascii_alphabetic (b ∷ part) else part)
+
+-- A part is read as such tokens and bytes, one behind the other to its end. Each has a byte at least, so that a part has no
+-- more of them than bytes.
+abbrev pub letters_in : ℕ → List ℕ → List Letter
+letters_in zero part = []
+letters_in (suc most) [] = []
+letters_in (suc most) (b ∷ part) = first_letters (b ∷ part) ++ letters_in most (behind_first (b ∷ part))
+
+-- the letters of a part
+abbrev pub letters_of : List ℕ → List Letter
+letters_of part = letters_in (length part) part
+
+-- the byte '-'
+abbrev pub hyphen : ℕ
+hyphen = 45
+
+-- any other byte
+abbrev pub is_no_hyphen : ℕ → Bool
+is_no_hyphen b = not (b == hyphen)
+
+-- what stands before the '-' of a version's text, or all of it where there is none
+abbrev pub front_text : List ℕ → List ℕ
+front_text text = run is_no_hyphen text
+
+-- a version without its release: that of the text before the '-'
+abbrev pub without_release : Fields → Fields
+without_release v = record { text = front_text v.text; epoch = v.epoch; version = v.version; release = None }
+
+-- a version with a release, and one without
+abbrev pub HasRelease : Fields → Type 0
+HasRelease v = v.release ≢ None
+
+abbrev pub IsWithoutRelease : Fields → Type 0
+IsWithoutRelease v = v.release ≡ None
+
+-- a letter's number is within the limit of 128 bits
+abbrev pub LetterIsWithin : Letter → Type 0
+LetterIsWithin letter = letter.number < 2 ^ 128
+
+-- the letters of a release that is left out are within the limit
+abbrev pub ReleaseIsWithin : Option (List Letter) → Type 0
+ReleaseIsWithin None = Unit {0}
+ReleaseIsWithin (Some letters) = AllByRecursion LetterIsWithin letters
+
+-- the epoch and each run of digits are within the limit of 128 bits
+abbrev pub IsWithin : Fields → Type 0
+IsWithin v = (v.epoch < 2 ^ 128) × AllByRecursion LetterIsWithin v.version × ReleaseIsWithin v.release

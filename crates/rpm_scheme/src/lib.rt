@@ -1,0 +1,18 @@
+//! RPM's versions, with numerals up to 2^128-1.
+#![tactic(auto)]
+
+mod letters;
+mod order;
+mod past;
+mod scheme;
+mod spelling;
+#[cfg(test)]
+mod tests;
+mod version;
+mod writing;
+
+pub use order::{compare_without_release, order_by_first_difference};
+pub use past::{limits_agree, past_numeral};
+pub use scheme::Rpm;
+pub use spelling::is_version;
+pub use version::{RpmVersion, without_release};

@@ -1,0 +1,7 @@
+pub mod Fields
+pub mod Rows
+pub mod Requests
+pub mod Answers
+pub mod Translations
+pub mod Laws
+pub mod Steps

@@ -1,0 +1,29 @@
+//! Lines: what a line asks, and what it is answered.
+#![tactic(auto)]
+
+mod answering;
+mod batching;
+mod fields;
+mod laws;
+mod names;
+mod purl_answers;
+mod refusing;
+mod reply;
+mod request;
+mod row;
+#[cfg(test)]
+mod tests;
+mod vers_answers;
+
+pub use answering::{
+    answer, answer_to_line, answer_to_request, answer_to_row, not_built, too_long,
+};
+pub use batching::batch;
+pub use fields::{Fields, split};
+pub use laws::{accepted_lines_say, one_answer, one_request};
+pub use reply::Answer;
+pub use request::{Request, request_of};
+pub use row::Row;
+pub use vx_lines::{
+    Failed, LoopEnd, MemorySink, MemorySource, PlainSource, Sink, Source, StdSink, StdSource,
+};

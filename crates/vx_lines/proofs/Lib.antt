@@ -1,0 +1,11 @@
+pub mod Parts
+pub mod Calls
+pub mod Held
+pub mod Collected
+pub mod Answered
+pub mod OneAnswer
+pub mod Feeds
+pub mod LineCuts
+pub mod Runs
+pub mod Turns
+pub mod Outputs

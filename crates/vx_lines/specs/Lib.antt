@@ -1,0 +1,5 @@
+pub mod Outside
+pub mod InMemory
+pub mod Lines
+pub mod Output
+pub mod Steps

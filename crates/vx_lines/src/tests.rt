@@ -1,0 +1,4 @@
+mod answering;
+mod failing;
+mod lines;
+mod outside;

@@ -1,0 +1,10 @@
+-- What is found at the groups so far.
+use Rattle.std.proofs.Common.{map, take}
+use Rattle.vx_range.specs.Pieces.{seen_all}
+use Rattle.vx_range.specs.Steps.Found.{AreGroupsFound, AreGroupsMade}
+use Rattle.vx_range.proofs.bounds.read_groups.Given as goal
+
+abbrev pub invariant-loop-pieces : goal.invariant-loop-pieces
+invariant-loop-pieces g l =
+    AreGroupsFound g.L.Language.ReadsAs g.L.Language.IsPast (g.L.Making.outcome l.domain) (map seen_all (take l.pieces-index l.groups)) l.initial.findings l.findings
+    (AreGroupsMade g.S.Shape.together (g.L.Making.spans l.domain) l.initial.findings.marks l.findings.marks l.shapes)
