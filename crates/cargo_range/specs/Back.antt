@@ -1,4 +1,5 @@
--- The requirement of spans, among releases. A requirement is one interval, so the first gap is refused.
+-- The requirement of spans, among releases, in the notation of the Cargo book, "Specifying Dependencies"; which text is printed is
+-- this project's own. A requirement is one interval, so the first gap is refused.
 use Rattle.std.specs.Prelude.{◌==◌, ◌&&◌, ◌++◌, ℕ, Bool, true, false, List, [], ◌∷◌, length, map, filter, codes, if◌then◌else◌, Option, Some, None, Result, Ok, Err}
 use Rattle.std.specs.List.{AllByRecursion}
 use Rattle.std.specs.Ordering.{is_eq, is_lt}

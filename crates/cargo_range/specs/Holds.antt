@@ -1,6 +1,6 @@
--- The test of one version against a comparator: that of the comparator's operator in `semver`, without the rule by which a
--- pre-release is let through only beside a comparator that names one of its numbers. On a release the two are the same. It
--- names no end of a range.
+-- The test of one version against a comparator, after the Cargo book, "Specifying Dependencies": that of the comparator's
+-- operator in `semver`, without the rule by which a pre-release is let through only beside a comparator that names one of its
+-- numbers. On a release the two are the same. It names no end of a range.
 use Rattle.std.specs.Prelude.{ℕ, Bool, List, [], Option, Some, None}
 use Rattle.semver.specs.EvalViews.{view_op}
 use Rattle.semver.specs.Parse.{Held, Parts}

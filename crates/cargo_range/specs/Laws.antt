@@ -6,3 +6,4 @@ pub mod Ranges
 pub mod Moved
 pub mod Printed
 pub mod Backs
+pub mod Sizes

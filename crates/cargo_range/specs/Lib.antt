@@ -7,6 +7,7 @@ pub mod Holds
 pub mod Spans
 pub mod Refusals
 pub mod Range
+pub mod Sizes
 pub mod Back
 pub mod Laws
 pub mod Steps

@@ -1,6 +1,6 @@
--- Cargo's range language: which versions are in a requirement, which spans it makes, and what it is refused for. Only
--- releases are offered, since a pre-release is matched only by a requirement that names a pre-release of the same three
--- numbers, which no span says.
+-- Cargo's range language, after the Cargo book, "Specifying Dependencies": which versions are in a requirement, which spans it
+-- makes, and what it is refused for. Only releases are offered, since a pre-release is matched only by a requirement that names a
+-- pre-release of the same three numbers, which no span says.
 use Rattle.std.specs.Prelude.{◌≡◌, ℕ, true, List, [], ◌∷◌, Some, Ok}
 use Rattle.std.specs.List.{list_all}
 use Rattle.semver.specs.EvalViews.{matches_views}

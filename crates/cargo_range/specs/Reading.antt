@@ -1,4 +1,5 @@
--- The reading of a requirement: the comparators that `semver` reads, each of a form of the Cargo book.
+-- The reading of a requirement: the comparators that `semver` reads, each of a form of the Cargo book, "Specifying
+-- Dependencies".
 use Rattle.std.specs.Prelude.{◌≡◌, ℕ, List, [], ◌∷◌, if◌then◌else◌, Option, Some, None, Ok}
 use Rattle.semver.specs.Grammar.{is_pre_release}
 use Rattle.semver.specs.Parse.{Held, req_of}

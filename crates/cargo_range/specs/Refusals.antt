@@ -1,4 +1,5 @@
--- What is refused of a requirement: a text that `semver` does not read, and a number that cannot be raised within 2^64-1.
+-- What is refused of a requirement, a limit of this project and of `semver`: a text that `semver` does not read, and a number that
+-- cannot be raised within 2^64-1.
 use Rattle.std.specs.Prelude.{◌≡◌, ◌⊎◌, ◌+◌, ◌==◌, ◌^◌, nat_lt, ℕ, Bool, false, true, List, length, slice_get, if◌then◌else◌, Option, Some, None, Ok, Err}
 use Rattle.std.specs.List.{list_all, prefix_len, slice_split}
 use Rattle.semver.specs.Parse.{Held, req_of}

@@ -1,5 +1,5 @@
--- The normal text of a version: the three numbers, and the pre-release behind its `-` where there is one. It leaves the
--- build out.
+-- The normal text of a version after Semantic Versioning 2.0, items 2, 9 and 10: the three numbers, and the pre-release behind its
+-- `-` where there is one. It leaves the build out.
 use Rattle.std.specs.Prelude.{ℕ, List}
 use Rattle.semver.specs.Parse.{Parts}
 use Rattle.semver.specs.Identifiers.{parts_text}

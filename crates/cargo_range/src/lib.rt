@@ -11,6 +11,7 @@ mod making;
 mod order;
 mod range;
 mod scheme;
+mod sizes;
 mod spelling;
 #[cfg(test)]
 mod tests;
@@ -25,4 +26,5 @@ pub use laws::{
     three_numbers_go_by_precedence,
 };
 pub use scheme::Cargo;
+pub use sizes::cargo_is_short;
 pub use version::CargoVersion;

@@ -1,4 +1,3 @@
-pub mod Cutting
 pub mod PairLaws
 pub mod PastLaws
 pub mod Bytes

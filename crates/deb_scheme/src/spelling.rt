@@ -1,29 +1,41 @@
-ghost use Rattle.std.specs.Prelude.{◌≡◌, ◌↔◌, ◌<◌, ◌^◌, true, MatchOption, IsTrue, IfOk, IfErr};
+ghost use Rattle.std.specs.Prelude.{◌↔◌, ◌≡◌, IfErr, IfOk, IsTrue};
 ghost use Rattle.std.specs.Option.{option_copied};
 ghost use Rattle.std.specs.List.{AllByRecursion, list_all};
 ghost use Rattle.vx_scheme.specs.Scheme.{Refuses};
 ghost use Rattle.vx_scheme.specs.Values.{Gives};
+ghost use Rattle.vx_text.specs.EpochParts.{IsMadeOf, parts};
 ghost use Rattle.deb_scheme.specs.Version.{IsWithin, LetterIsWithin, letters_of};
-ghost use Rattle.deb_scheme.specs.Spelling.{Spells, IsVersionText, version_of, is_made_of, is_upstream_byte, is_revision_byte, is_epoch, is_revision, epoch_value, revision_text};
-ghost use Rattle.deb_scheme.specs.Steps.Apart.{IsApart};
-ghost use Rattle.deb_scheme.specs.Steps.Written.{parts, IsVersionWritten, NoVersionWritten};
+ghost use Rattle.deb_scheme.specs.Spelling.{IsVersionText, Spells, is_revision, is_revision_byte, is_upstream, is_upstream_byte, revision_text, version_of};
 
 use crate::letters::letters;
 use crate::version::DebVersion;
 use std::alloc::Global;
 use vx_order::Letters;
 use vx_scheme::{Text, VersionFault};
-use vx_text::{first_cut, is_numeral, last_cut, numeral_of};
+use vx_text::{EpochParts, PartForms, epoch_number, epoch_parts, has_epoch_parts};
 
-/// The parts of a version's text, as they are written.
-#[derive(Clone, Copy)]
-pub(crate) struct Written<'a> {
-    /// What stands before the first `:`, where there is one.
-    pub(crate) epoch: Option<&'a str>,
-    /// The upstream part.
-    pub(crate) upstream: &'a [u8],
-    /// What stands behind the last `-`, where there is one.
-    pub(crate) revision: Option<&'a [u8]>,
+// The forms of the upstream part, which is the main one, and of the revision, which is the last.
+struct Forms;
+
+impl PartForms for Forms {
+    ghost use Rattle.deb_scheme.specs.Spelling.{is_revision, is_upstream};
+    ghost use Rattle.deb_scheme.specs.Laws.Unique.{revision_lacks, upstream_lacks};
+
+    ghost main_form = { is_upstream };
+
+    ghost last_form = { is_revision };
+
+    ghost main_lacks = { upstream_lacks };
+
+    ghost last_lacks = { revision_lacks };
+
+    fn is_main(part: &[u8]) -> bool {
+        is_upstream(part)
+    }
+
+    fn is_last(part: &[u8]) -> bool {
+        is_revision(part)
+    }
 }
 
 /// The version that the text spells. The forms of the parts are tested before a value is made, so that `NotAVersion`
@@ -32,62 +44,21 @@ pub(crate) fn read(alloc: Global, text: &str) -> Result<DebVersion, VersionFault
     ensures ok { IfOk result (λ v. Spells text.now v × IsWithin v) }
     ensures err { IfErr result (Refuses Spells IsWithin text.now) }
 {
-    let Some(written) = take_apart(text) else {
+    let Some(found) = epoch_parts::<Forms>(text) else {
         return Err(VersionFault::NotAVersion);
     };
-    version_of_parts(alloc, text, &written)
-}
-
-/// The parts of a version's text, each of which has its form; `None` exactly where the text has no such parts. It
-/// takes no memory.
-fn take_apart(text: &str) -> Option<Written<'_>>
-    ensures { MatchOption result (NoVersionWritten text.now) (λ w. IsVersionWritten text.now (parts w)) }
-{
-    let written = cut_apart(text);
-    if has_form(&written) {
-        Some(written)
-    } else {
-        None
-    }
+    version_of_parts(alloc, text, &found)
 }
 
 /// Whether the text spells a version, with numerals of any length. It takes no memory.
 pub fn is_version(text: &str) -> bool
     ensures { IsTrue result ↔ IsVersionText text.now }
 {
-    has_form(&cut_apart(text))
-}
-
-fn cut_apart(text: &str) -> Written<'_>
-    ensures { IsApart text.now (parts result) }
-{
-    let (epoch, rest) = first_cut(text, ':');
-    let (upstream, revision) = last_cut(rest.as_bytes(), b'-');
-    Written {
-        epoch,
-        upstream,
-        revision,
-    }
-}
-
-/// Whether each part has the form that its bytes give it.
-fn has_form(written: &Written) -> bool
-    ensures { IsTrue result ↔ ((is_epoch (parts written.now).epoch ≡ true) × (is_made_of is_upstream_byte (parts written.now).upstream ≡ true) × (is_revision (parts written.now).revision ≡ true)) }
-{
-    is_epoch(written.epoch) && is_upstream(written.upstream) && is_revision(written.revision)
-}
-
-fn is_epoch(part: Option<&str>) -> bool
-    ensures { result ≡ is_epoch (option_copied part.entry) }
-{
-    match part {
-        Some(part) => is_numeral(part),
-        None => true,
-    }
+    has_epoch_parts::<Forms>(text)
 }
 
 fn is_upstream(part: &[u8]) -> bool
-    ensures { result ≡ is_made_of is_upstream_byte part.now }
+    ensures { result ≡ is_upstream part.now }
 {
     !part.is_empty() && all_upstream(part)
 }
@@ -99,13 +70,10 @@ fn all_upstream(part: &[u8]) -> bool
         .all(|byte| is_revision_byte(*byte) || *byte == b'-')
 }
 
-fn is_revision(part: Option<&[u8]>) -> bool
-    ensures { result ≡ is_revision (option_copied part.entry) }
+fn is_revision(part: &[u8]) -> bool
+    ensures { result ≡ is_revision part.now }
 {
-    match part {
-        Some(part) => !part.is_empty() && all_revision(part),
-        None => true,
-    }
+    !part.is_empty() && all_revision(part)
 }
 
 fn all_revision(part: &[u8]) -> bool
@@ -125,14 +93,14 @@ fn is_revision_byte(byte: u8) -> bool
 fn version_of_parts(
     alloc: Global,
     text: &str,
-    written: &Written,
+    found: &EpochParts,
 ) -> Result<DebVersion, VersionFault>
-    requires { IsVersionWritten text.now (parts written.now) }
-    ensures { Gives IsWithin result (version_of text.now (parts written.now)) }
+    requires { IsMadeOf is_upstream is_revision text.now (parts found.now) }
+    ensures { Gives IsWithin result (version_of text.now (parts found.now)) }
 {
-    let epoch = epoch_number(written.epoch)?;
-    let upstream = letters(alloc, written.upstream)?;
-    let revision = revision_letters(alloc, written.revision)?;
+    let epoch = epoch_number(found.epoch)?;
+    let upstream = letters(alloc, found.main)?;
+    let revision = revision_letters(alloc, found.last)?;
     let text = Text::copy_of(alloc, text)?;
     Ok(DebVersion {
         text,
@@ -140,16 +108,6 @@ fn version_of_parts(
         upstream,
         revision,
     })
-}
-
-fn epoch_number(part: Option<&str>) -> Result<u128, VersionFault>
-    requires { IsTrue (is_epoch (option_copied part)) }
-    ensures { Gives (λ n. n < 2 ^ 128) result (epoch_value (option_copied part.entry)) }
-{
-    match part {
-        Some(part) => numeral_of(part),
-        None => Ok(0),
-    }
 }
 
 fn revision_letters(alloc: Global, part: Option<&[u8]>) -> Result<Letters, VersionFault>

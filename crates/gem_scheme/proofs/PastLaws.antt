@@ -1,15 +1,13 @@
 -- A version is within the limit exactly where no numeral of its text is past it.
-use Rattle.std.proofs.Common.{◌≡◌, ◌↔◌, ◌<◌, ◌≤◌, ◌+◌, ◌^◌, ◌++◌, not, ℕ, zero, suc, true, false, eqb, List, [], ◌∷◌, length, refl, sym, ap, ◌∙◌, subst, None, inl, inr, arith, append-nil}
-use Rattle.std.specs.List.{AllByRecursion, list_all}
+use Rattle.std.proofs.Common.{◌≡◌, ◌↔◌, ◌≤◌, ℕ, zero, suc, eqb, List, [], ◌∷◌, length, sym, subst, None, inl, inr, arith}
+use Rattle.std.specs.List.{AllByRecursion}
 use Rattle.std.specs.Char.{is_ascii_digit, is_ascii_alphabetic}
-use Rattle.std.proofs.lemmas.Bool.{and_parts, cases_Bool, lt-ltb}
-use Rattle.std.proofs.lemmas.Bool.Decides.{nat_tests}
-use Rattle.vx_spec.specs.Numerals.{value}
-use Rattle.vx_spec.specs.Runs.{begins, run, past}
-use Rattle.vx_spec.proofs.RunLaws.{run_stays, run_past, past_begins, run_all, one_run}
+use Rattle.std.proofs.lemmas.Bool.{cases_Bool}
+use Rattle.vx_spec.specs.Runs.{run, past}
+use Rattle.vx_spec.proofs.RunLaws.{run_past, past_begins, run_all}
 use Rattle.vx_spec.proofs.EachLaws.{each_append, each_behind}
-use Rattle.vx_text.specs.Past.{is_past, first_past, NonePast}
-use Rattle.vx_text.proofs.PastLaws.{none_past, none_after, run_front}
+use Rattle.vx_text.specs.Past.{first_past, NonePast}
+use Rattle.vx_text.proofs.PastLaws.{first_none, no_digit, none_after, none_number, none_past, none_word}
 use Rattle.gem_scheme.specs.Version.{Fields, IsWithin, SegmentIsWithin}
 use Rattle.gem_scheme.specs.Spelling.{Spells, hyphen, behind_first, segments_of}
 use Rattle.gem_scheme.specs.Steps.Tokens.{front_segments, sign_segments}
@@ -57,36 +55,6 @@ segments_within (suc n) (b ∷ text) size none =
 
 -- ---- and the other way round
 
-not_past : (digits : List ℕ) → value digits < 2 ^ 128 → is_past digits ≡ false
-not_past digits small = ap not (lt-ltb (value digits) (2 ^ 128) small)
-
-first_none : (at : ℕ) (text : List ℕ) → NonePast text → first_past at text ≡ None
-first_none at [] h = refl
-first_none at (b ∷ text) h = rw (not_past (run is_ascii_digit (b ∷ text)) h.0) (first_none (at + 1) text h.1)
-
-no_digit : (b : ℕ) (text : List ℕ) → is_ascii_digit b ≡ false → value (run is_ascii_digit (b ∷ text)) < 2 ^ 128
-no_digit b text other = rw (run_stays is_ascii_digit b text other) (omega arith)
-
-none_join : (xs ys : List ℕ) → begins is_ascii_digit ys ≡ false → NonePast xs → NonePast ys → NonePast (xs ++ ys)
-none_join [] ys none p q = q
-none_join (x ∷ xs) ys none p q = (subst (λ r. value r < 2 ^ 128) (sym (run_front (x ∷ xs) ys none)) p.0, none_join xs ys none p.1 q)
-
-letter_no_digit : (b : ℕ) → is_ascii_alphabetic b ≡ true → is_ascii_digit b ≡ false
-letter_no_digit b is = grind (arith, nat_tests)
-
-none_word : (word ys : List ℕ) → list_all is_ascii_alphabetic word ≡ true → NonePast ys → NonePast (word ++ ys)
-none_word [] ys all q = q
-none_word (x ∷ word) ys all q =
-    let a = and_parts (is_ascii_alphabetic x) (list_all is_ascii_alphabetic word) all in
-    (no_digit x (word ++ ys) (letter_no_digit x a.0), none_word word ys a.1 q)
-
-none_digits : (digits : List ℕ) → list_all is_ascii_digit digits ≡ true → value digits < 2 ^ 128 → NonePast digits
-none_digits [] all small = tt
-none_digits (d ∷ digits) all small =
-    let whole' : run is_ascii_digit (d ∷ digits) ≡ d ∷ digits = ap (run is_ascii_digit) (sym (append-nil (d ∷ digits))) ∙ (one_run is_ascii_digit (d ∷ digits) [] all refl).0 in
-    let less : value digits < 2 ^ 128 = omega (arith, small) in
-    (subst (λ r. value r < 2 ^ 128) (sym whole') small, none_digits digits (and_parts (is_ascii_digit d) (list_all is_ascii_digit digits) all).1 less)
-
 -- a segment within the limit, with nothing past the limit behind it
 none_here : (b : ℕ) (text : List ℕ) → AllByRecursion SegmentIsWithin (front_segments (b ∷ text)) → NonePast (behind_first (b ∷ text)) → NonePast (b ∷ text)
 none_here b text fits rest = elim (cases_Bool (is_ascii_digit b)) [
@@ -95,7 +63,7 @@ none_here b text fits rest = elim (cases_Bool (is_ascii_digit b)) [
       let number = (subst (AllByRecursion SegmentIsWithin) (front_digits b text digit) fits).0 in
       let behind = subst NonePast (behind_digits b text digit) rest in
       subst NonePast (sym (run_past is_ascii_digit (b ∷ text)))
-      (none_join digits (past is_ascii_digit (b ∷ text)) (past_begins is_ascii_digit (b ∷ text)) (none_digits digits (run_all is_ascii_digit (b ∷ text)) number) behind)
+      (none_number digits (past is_ascii_digit (b ∷ text)) (run_all is_ascii_digit (b ∷ text)) (past_begins is_ascii_digit (b ∷ text)) number behind)
   | inr other ↦ elim (cases_Bool (is_ascii_alphabetic b)) [
     | inl letter ↦
         let behind = subst NonePast (behind_word b text other letter) rest in

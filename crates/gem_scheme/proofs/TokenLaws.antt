@@ -1,11 +1,7 @@
 -- The segments of a text, token by token.
-use Rattle.std.proofs.Common.{◌≡◌, ◌≢◌, ◌<◌, ◌++◌, ℕ, List, [], ◌∷◌, length, true, refl, sym, ap, ◌∙◌, subst, append_assoc, arith}
-use Rattle.std.specs.List.{AllByRecursion, list_all}
-use Rattle.std.specs.Char.{is_ascii_alphabetic}
-use Rattle.std.specs.Str.{IsUtf8}
-use Rattle.std.proofs.lemmas.Bool.Decides.{nat_tests}
+use Rattle.std.proofs.Common.{◌≡◌, ◌≢◌, ◌<◌, ◌++◌, ℕ, List, [], ◌∷◌, length, refl, sym, ap, ◌∙◌, subst, append_assoc, arith}
+use Rattle.std.specs.List.{AllByRecursion}
 use Rattle.vx_spec.proofs.EachLaws.{each_behind}
-use Rattle.vx_spec.proofs.TextLaws.{each_by_test, utf8_by_each}
 use Rattle.vx_scheme.specs.declared.ident.Ident.{Ident}
 use Rattle.gem_scheme.specs.Version.{SegmentIsWithin}
 use Rattle.gem_scheme.specs.Spelling.{behind_first, segments_of}
@@ -30,10 +26,3 @@ one_more segments all rest some joined =
 pub behind_shorter : (rest : List ℕ) → rest ≢ [] → length (behind_first rest) < length rest
 behind_shorter [] some = absurd (some refl)
 behind_shorter (b ∷ rest) some = omega (arith, behind_less b rest)
-
-letter_small : (b : ℕ) → is_ascii_alphabetic b ≡ true → b < 128
-letter_small b is = grind (arith, nat_tests)
-
--- a word is UTF-8
-pub word_utf8 : (text : List ℕ) → list_all is_ascii_alphabetic text ≡ true → IsUtf8 text
-word_utf8 text all = utf8_by_each text (each_by_test (λ b. b < 128) is_ascii_alphabetic text letter_small all)

@@ -1,4 +1,4 @@
--- The normal text of a version: its segments joined by '.'.
+-- The normal text of a version: its segments (`Gem::Version#segments`) joined by '.'.
 use Rattle.std.specs.Prelude.{ℕ, List, map}
 use Rattle.std.specs.List.{join_with_byte}
 use Rattle.vx_spec.specs.Numerals.{numeral_text}

@@ -12,20 +12,7 @@ use crate::version::{Segment, Segments};
 use std::alloc::Global;
 use std::str;
 use vx_scheme::{NoMemory, Text, VersionFault};
-use vx_text::{ByteClass, Digits, cut_run, number_of};
-
-// The ASCII letters.
-struct Alphabetic;
-
-impl ByteClass for Alphabetic {
-    ghost use Rattle.std.specs.Char.{is_ascii_alphabetic};
-
-    ghost holds = { is_ascii_alphabetic };
-
-    fn is_one(byte: u8) -> bool {
-        byte.is_ascii_alphabetic()
-    }
-}
+use vx_text::{Alphabetic, Digits, cut_run, number_of};
 
 // What stands at the front of a text.
 #[derive(Clone, Copy)]

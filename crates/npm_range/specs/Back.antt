@@ -1,4 +1,5 @@
--- The way back: the range text of spans, the same in each domain. Nothing is refused, and versions are normal texts.
+-- The way back: the range text of spans, the same in each domain, in the notation of the README of node-semver, "Ranges"; which
+-- text is printed is this project's own. Nothing is refused, and versions are normal texts.
 use Rattle.std.specs.Prelude.{◌++◌, ℕ, List, Option, Some, None, Result, Ok, codes, if◌then◌else◌}
 use Rattle.std.specs.List.{join_by}
 use Rattle.vx_scheme.specs.declared.back_fault.BackFault.{BackFault}

@@ -1,5 +1,5 @@
--- How a range text is cut: at each `||` into alternatives, and each alternative into its pieces, or into the two sides of
--- its hyphen range.
+-- How a range text is cut, after the README of node-semver, "Range Grammar" and "Hyphen Ranges": at each `||` into alternatives,
+-- and each alternative into its pieces, or into the two sides of its hyphen range.
 use Rattle.std.specs.Prelude.{◌≡◌, ◌≢◌, ◌==◌, ◌&&◌, ◌||◌, ◌+◌, ◌-◌, ℕ, Bool, false, List, [], ◌∷◌, ◌++◌, ◌⊎◌, length, take, codes}
 use Rattle.vx_spec.specs.Runs.{is_blank, is_solid, begins, run, past}
 use Rattle.vx_range.specs.Pieces.{Written}

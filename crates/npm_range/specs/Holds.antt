@@ -1,5 +1,5 @@
--- The test of one version against a construct, after the README of node-semver, by precedence. It names no end of a
--- range and no domain. Numerals are of any size.
+-- The test of one version against a construct, after the README of node-semver, "Ranges" and "Advanced Range Syntax", by
+-- precedence. It names no end of a range and no domain. Numerals are of any size.
 use Rattle.std.specs.Prelude.{◌==◌, ◌&&◌, ◌||◌, ◌+◌, if◌then◌else◌, nat_lt, ℕ, Bool, true, false, List, [], ◌∷◌}
 use Rattle.std.specs.Ordering.{is_eq, is_lt, is_le, is_gt, is_ge}
 use Rattle.npm_scheme.specs.Version.{Fields, release_of}

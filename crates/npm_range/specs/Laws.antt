@@ -6,3 +6,4 @@ pub mod Tables
 pub mod Ranges
 pub mod Texts
 pub mod Backs
+pub mod Sizes

@@ -5,5 +5,6 @@ pub mod Holds
 pub mod Spans
 pub mod Back
 pub mod Range
+pub mod Sizes
 pub mod Laws
 pub mod Steps

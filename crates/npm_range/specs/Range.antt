@@ -1,4 +1,5 @@
--- npm's range language: which versions are in a text, which spans the text makes, and what it is refused for.
+-- npm's range language, after the README of node-semver, "Ranges": which versions are in a text, which spans the text makes, and
+-- what it is refused for.
 use Rattle.std.specs.Prelude.{ℕ, List}
 use Rattle.vx_scheme.specs.declared.domain.Domain.{Domain}
 use Rattle.vx_scheme.specs.declared.range_fault.RangeFault.{RangeFault}

@@ -1,4 +1,5 @@
--- What a piece is read as: an operator, and a partial, a version of which the last numbers may be left out.
+-- What a piece is read as, after the README of node-semver, "Range Grammar": an operator, and a partial, a version of which the
+-- last numbers may be left out.
 use Rattle.std.specs.Prelude.{◌≡◌, ◌==◌, ◌&&◌, ◌||◌, nat_lt, ℕ, Bool, true, false, List, [], ◌∷◌, ◌⊎◌, length, map, if◌then◌else◌, codes}
 use Rattle.std.specs.List.{list_all, slice_split}
 use Rattle.vx_spec.specs.Numerals.{value}

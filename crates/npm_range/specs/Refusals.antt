@@ -1,4 +1,4 @@
--- What is refused of a construct: a numeral past 2^128-1, or one that cannot be raised within it.
+-- What is refused of a construct, a limit of this project: a numeral past 2^128-1, or one that cannot be raised within it.
 use Rattle.std.specs.Prelude.{◌≡◌, ◌==◌, ◌+◌, ◌-◌, ◌<◌, ◌^◌, nat_lt, ℕ, Bool, true, List, ◌∷◌, ◌⊎◌, length, if◌then◌else◌, Option, Some, None}
 use Rattle.vx_range.specs.declared.making.Outcome.{Outcome}
 use Rattle.vx_range.specs.declared.making.Outcome.TheVariants.{Spans, TooHigh}

@@ -1,4 +1,5 @@
--- The spans that constructs make in a domain. Numerals are of any size, and so are those that are raised by one.
+-- The spans that constructs make in a domain, after the desugaring in the README of node-semver, "Advanced Range Syntax". Numerals
+-- are of any size, and so are those that are raised by one.
 use Rattle.std.specs.Prelude.{◌==◌, ◌+◌, if◌then◌else◌, ℕ, List, []}
 use Rattle.std.specs.List.{AllByRecursion}
 use Rattle.vx_scheme.specs.declared.domain.Domain.{Domain}

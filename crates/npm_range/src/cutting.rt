@@ -5,7 +5,7 @@ ghost use Rattle.npm_range.specs.Cutting.{piece_from, behind_piece, first_piece,
 ghost use Rattle.npm_range.specs.Steps.Bars.{before_bars};
 
 use std::alloc::{AllocError, Global};
-use vx_range::Piece;
+use vx_range::{Few, Groups, Piece, Pieces};
 use vx_text::{Blanks, ByteClass, Solids, cut_run, past_run};
 
 /// What a piece is.
@@ -96,12 +96,12 @@ fn first_piece(text: &[u8], at: usize) -> Option<(NpmPiece<'_>, &[u8])>
 }
 
 /// The pieces of an alternative that is no hyphen range.
-fn pieces_of(alloc: Global, text: &[u8], at: usize) -> Result<Vec<NpmPiece<'_>>, AllocError>
+fn pieces_of(alloc: Global, text: &[u8], at: usize) -> Result<Pieces<'_, Kind>, AllocError>
     requires { at + length text.now < 2 ^ 64 }
     ensures pieces { IfOk result (λ v. ArePieces at text.now (seen_all v)) }
     ensures placed { IfOk result (λ v. AllByRecursion IsInPlace (seen_all v)) }
 {
-    let mut pieces = Vec::new(alloc);
+    let mut pieces = Few::new(alloc);
     let mut from = at;
     let mut rest = text;
     while let Some((piece, behind)) = first_piece(rest, from) {
@@ -161,14 +161,14 @@ fn hyphen_range(text: &[u8], at: usize) -> Option<(NpmPiece<'_>, NpmPiece<'_>)>
 }
 
 /// What an alternative is made of.
-fn made_of(alloc: Global, text: &[u8], at: usize) -> Result<Vec<NpmPiece<'_>>, AllocError>
+fn made_of(alloc: Global, text: &[u8], at: usize) -> Result<Pieces<'_, Kind>, AllocError>
     requires { at + length text.now < 2 ^ 64 }
     ensures pieces { IfOk result (λ v. IsMadeOf at text.now (seen_all v)) }
     ensures placed { IfOk result (λ v. AllByRecursion IsInPlace (seen_all v)) }
 {
     match hyphen_range(text, at) {
         Some((low, high)) => {
-            let mut sides = Vec::with_capacity(alloc, 2)?;
+            let mut sides = Few::new(alloc);
             sides.push(low)?;
             sides.push(high)?;
             Ok(sides)
@@ -178,12 +178,12 @@ fn made_of(alloc: Global, text: &[u8], at: usize) -> Result<Vec<NpmPiece<'_>>, A
 }
 
 /// The pieces of each alternative of a range text.
-pub(crate) fn cut_text(alloc: Global, text: &[u8]) -> Result<Vec<Vec<NpmPiece<'_>>>, AllocError>
+pub(crate) fn cut_text(alloc: Global, text: &[u8]) -> Result<Groups<'_, Kind>, AllocError>
     requires { length text.now < 2 ^ 64 }
-    ensures cut { IfOk result (λ groups. IsCut text.now (map seen_all groups.items)) }
-    ensures placed { IfOk result (λ groups. AllByRecursion (AllByRecursion IsInPlace) (map seen_all groups.items)) }
+    ensures cut { IfOk result (λ groups. IsCut text.now (map seen_all groups)) }
+    ensures placed { IfOk result (λ groups. AllByRecursion (AllByRecursion IsInPlace) (map seen_all groups)) }
 {
-    let mut groups = Vec::new(alloc);
+    let mut groups = Few::new(alloc);
     let mut at = 0;
     let mut rest = text;
     while let Some((front, behind)) = cut_at_bars(rest) {

@@ -9,6 +9,7 @@ mod making;
 mod partials;
 mod range;
 mod reading;
+mod sizes;
 #[cfg(test)]
 mod tests;
 
@@ -16,3 +17,4 @@ pub use construct::{Construct, Operator, Partial};
 pub use cutting::Kind;
 pub use laws::{construct_is_its_spans, npm_limits_agree, npm_one_answer, npm_raises_agree};
 pub use range::NpmRange;
+pub use sizes::npm_is_short;

@@ -5,7 +5,7 @@ use crate::{making, reading};
 use npm_scheme::{Npm, NpmVersion};
 use std::alloc::{AllocError, Global};
 use std::cmp::Ordering;
-use vx_range::{Language, Making, Outcome, PieceReading, bounds_of_alternatives};
+use vx_range::{Groups, Language, Making, Outcome, PieceReading, bounds_of_alternatives};
 use vx_scheme::{
     BackFault, Bounds, Domain, Native, NoMemory, RangeFault, Scheme, SchemeName, Spans, Text,
     VersionFault,
@@ -109,7 +109,7 @@ impl Language for NpmRange {
 
     ghost pieces = { npm_pieces };
 
-    fn cut_text(alloc: Global, text: &[u8]) -> Result<Vec<Vec<NpmPiece<'_>>>, AllocError> {
+    fn cut_text(alloc: Global, text: &[u8]) -> Result<Groups<'_, Kind>, AllocError> {
         cut_text(alloc, text)
     }
 

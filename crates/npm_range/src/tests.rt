@@ -19,12 +19,14 @@ fn first(alloc: Global, text: &str) -> Option<(Operator, usize, u8, u128)> {
     let Ok(groups) = cut_text(alloc, text.as_bytes()) else {
         return None;
     };
-    let Some(group) = groups.first() else {
+    if groups.is_empty() {
         return None;
-    };
-    let Some(piece) = group.first() else {
+    }
+    let group = groups.get(0);
+    if group.is_empty() {
         return None;
-    };
+    }
+    let piece = group.get(0);
     let Ok(PieceReading::Construct(construct)) = read_piece(alloc, piece) else {
         return None;
     };

@@ -1,4 +1,4 @@
--- Where in the text of a version the first numeral begins that passes the limit of 128 bits.
+-- Where in the text of a version the first numeral begins that passes the limit of 128 bits, which is this project's own.
 use Rattle.std.specs.Prelude.{ℕ, ◌+◌, ◌&&◌, if◌then◌else◌, Bool, List, [], ◌∷◌, length, Option, Some, None}
 use Rattle.vx_spec.specs.Numerals.{is_numeral}
 use Rattle.vx_text.specs.Past.{is_past}

@@ -1,5 +1,5 @@
--- The text of a version after the grammar of Semantic Versioning 2.0: the text is its parts, joined by their signs;
--- each part has its form; and the version has their values.
+-- The text of a version after Semantic Versioning 2.0, items 2, 9 and 10 and the grammar: the text is its parts, joined by their
+-- signs; each part has its form; and the version has their values.
 use Rattle.std.specs.Prelude.{◌≡◌, ℕ, ◌&&◌, ◌==◌, not, nat_lt, Bool, true, List, [], ◌∷◌, ◌++◌, length, map, slice_index, if◌then◌else◌}
 use Rattle.std.specs.List.{list_all, join_with_byte}
 use Rattle.vx_spec.specs.Numerals.{is_numeral, value}

@@ -1,5 +1,5 @@
--- A version after Semantic Versioning 2.0: its fields, with numbers of any size and texts as their bytes; when they
--- are a version's; and the limit of numerals.
+-- A version after Semantic Versioning 2.0, items 2, 9 and 10: its fields, with numbers of any size and texts as their bytes;
+-- when they are a version's; and the limit of numerals.
 use Rattle.std.specs.Prelude.{◌≡◌, ◌==◌, ◌&&◌, ◌||◌, ◌^◌, ◌<◌, not, nat_lt, ℕ, Bool, true, List, [], ◌∷◌, length}
 use Rattle.std.specs.Char.{is_ascii_alphanumeric}
 use Rattle.std.specs.List.{AllByRecursion, list_all, slice_split}

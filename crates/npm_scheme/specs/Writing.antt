@@ -1,4 +1,4 @@
--- The normal text of a version, which leaves the build out.
+-- The normal text of a version after Semantic Versioning 2.0, items 2 and 9, which leaves the build (item 10) out.
 use Rattle.std.specs.Prelude.{ℕ, List, ◌++◌, map}
 use Rattle.vx_spec.specs.Numerals.{numeral_text}
 use Rattle.vx_scheme.specs.declared.ident.Ident.{Ident}

@@ -7,3 +7,5 @@ pub mod Pushed
 pub mod NextLaws
 pub mod BumpLaws
 pub mod PastLaws
+pub mod ShapeLaws
+pub mod Bytes

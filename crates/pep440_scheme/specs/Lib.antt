@@ -5,5 +5,6 @@ pub mod Spelling
 pub mod Writing
 pub mod Next
 pub mod Past
+pub mod Shape
 pub mod Laws
 pub mod Steps

@@ -1,5 +1,5 @@
--- Versions made of others by raising a number: the next public version, the next release, the next pre-release; and what is
--- lowest among the versions that begin alike.
+-- Versions made of others by raising a number, by the order of PEP 440, "Summary of permitted suffixes and relative ordering": the
+-- next public version, the next release, the next pre-release; and what is lowest among the versions that begin alike.
 use Rattle.std.specs.Prelude.{◌≡◌, ◌≢◌, ◌+◌, ◌-◌, ◌^◌, ℕ, List, [], ◌∷◌, Option, Some, None}
 use Rattle.std.specs.Option.{option_map}
 use Rattle.vx_scheme.specs.declared.step_fault.StepFault.{StepFault}

@@ -1,4 +1,4 @@
--- Where in the text of a version the first numeral begins that passes the limit of 128 bits.
+-- Where in the text of a version the first numeral begins that passes the limit of 128 bits, which is this project's own.
 use Rattle.std.specs.Prelude.{ℕ, ◌+◌, ◌&&◌, ◌==◌, not, if◌then◌else◌, Bool, List, [], ◌∷◌, length, Option, Some, None}
 use Rattle.std.specs.Option.{option_or}
 use Rattle.std.specs.List.{slice_split}

@@ -1,5 +1,5 @@
--- A version after PEP 440: its fields, with numbers of any size and texts as their bytes; when they are a version's; and the
--- limit of numerals.
+-- A version after PEP 440, "Version scheme": its fields, with numbers of any size and texts as their bytes; when they are a
+-- version's; and the limit of numerals.
 use Rattle.std.specs.Prelude.{◌≡◌, ◌&&◌, ◌||◌, ◌^◌, ◌<◌, not, nat_lt, ℕ, Bool, true, List, [], length, Option, Some, None}
 use Rattle.std.specs.Char.{is_ascii_digit, is_ascii_lowercase}
 use Rattle.std.specs.List.{AllByRecursion, list_all}

@@ -146,6 +146,14 @@ pub fn succ_is_next()
     ensures lowest { (v w : Fields) → IsPublic v → IsPublic w → order_of v w ≡ Less → order_of w (succ_of v) ≢ Less }
 {}
 
+/// What is made of a version by raising its release or its pre-release, or by adding `.dev0`, is a version, with numerals of any
+/// size.
+pub fn steps_make_versions()
+    ensures bump { (v : Fields) → IsVersion v → IsVersion (bump_of v) }
+    ensures next_pre { (v : Fields) → IsVersion v → IsVersion (next_pre_of v) }
+    ensures dev0 { (v : Fields) → IsVersion v → IsVersion (dev0_of v) }
+{}
+
 /// The versions from a public one on, as far as its `succ`, are the version itself and its locals: nothing else lies between.
 pub fn locals_alone_lie_between()
     ensures { (v w : Fields) → IsPublic v → IsFrom v (succ_of v) w ↔ IsLocalOf v w }

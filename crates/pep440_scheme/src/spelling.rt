@@ -70,8 +70,8 @@ impl ByteClass for Dots {
     }
 }
 
-// Every byte but '.'.
-struct NoDots;
+/// Every byte but `.`.
+pub(crate) struct NoDots;
 
 impl ByteClass for NoDots {
     ghost use Rattle.pep440_scheme.specs.Steps.Apart.{is_no_dot};
@@ -111,7 +111,7 @@ pub(crate) fn read(alloc: Global, text: &str) -> Result<Pep440Version, VersionFa
 
 /// The parts of the text, read from the left, if it is a version's. It takes no memory.
 #[tactic(auto, unfolding(crate::specs::Steps::Apart::apart))]
-fn cut_apart(text: &[u8]) -> Written<'_>
+pub(crate) fn cut_apart(text: &[u8]) -> Written<'_>
     ensures { parts result ≡ apart text.now }
 {
     let (epoch, rest) = take_epoch(after_v(trimmed(text)));

@@ -74,7 +74,7 @@ pub(crate) fn copy(alloc: Global, version: &Pep440Version) -> Result<Pep440Versi
 }
 
 /// The same numbers once more.
-pub(crate) fn copy_numbers(alloc: Global, numbers: &[u128]) -> Result<Numbers, NoMemory>
+pub fn copy_numbers(alloc: Global, numbers: &[u128]) -> Result<Numbers, NoMemory>
     ensures { IfOk result (λ copied. copied ≡ numbers.now) }
 {
     let mut copied = Numbers::with_room(alloc, numbers.len())?;

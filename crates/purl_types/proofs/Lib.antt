@@ -4,3 +4,4 @@ pub mod OneAnswer
 pub mod Pairwise
 pub mod SameLaws
 pub mod Utf8
+pub mod Values

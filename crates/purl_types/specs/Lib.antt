@@ -1,3 +1,4 @@
+pub mod Candidate
 pub mod Canonical
 pub mod Folding
 pub mod Same

@@ -1,10 +1,13 @@
 //! Laws of the definitions, each as the contract of a function that does nothing: what texts are answered is one answer.
 //! Want of memory is no refusal of a text.
 
-ghost use Rattle.std.specs.Prelude.{◌≡◌, ◌≢◌, ℕ, Bool, List, Ok, Err};
+ghost use Rattle.std.specs.Prelude.{◌≡◌, ◌≢◌, ℕ, Bool, List, None, Ok, Err};
 ghost use Rattle.purl_core.specs.Reading.{IsRefused};
 ghost use Rattle.purl_core.specs.declared.fault.PurlFault.{PurlFault};
 ghost use Rattle.purl_core.specs.declared.fault.PurlFault.TheVariants as fault_of;
+ghost use Rattle.purl_core.specs.Spelling.{SpellsPurl};
+ghost use Rattle.purl_core.specs.Value.{Package};
+ghost use Rattle.purl_types.specs.Candidate.{IsCandidate};
 ghost use Rattle.purl_types.specs.Canonical.{IsCanonical, IsComparedAs};
 
 /// A text has one canonical text or one refusal, and never both.
@@ -14,6 +17,12 @@ pub fn one_canonical_answer()
         IsRefused text a → IsRefused text b → a ≡ b }
     ensures apart { (text canonical : List ℕ) (fault : PurlFault) → fault ≢ fault_of.NoMemory →
         IsCanonical text canonical → ¬ (IsRefused text fault) }
+{}
+
+/// A text gives one candidate, and none where it spells a package URL without a version.
+pub fn one_candidate()
+    ensures text { (text a b : List ℕ) (p q : Package) → SpellsPurl text p → SpellsPurl text q → IsCandidate p a → IsCandidate q b → a ≡ b }
+    ensures none { (text candidate : List ℕ) (p q : Package) → SpellsPurl text p → SpellsPurl text q → q.version ≡ None → ¬ (IsCandidate p candidate) }
 {}
 
 /// Two texts are compared with one answer or one refusal, and never both.

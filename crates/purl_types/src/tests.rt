@@ -79,6 +79,14 @@ pkg:cargo/x\tcargo
 pkg:golang/x\tnone
 pkg:npm2/x\tnone";
 
+/// Texts and the version texts that they give for their schemes, with a tab between the two.
+const CANDIDATES: &str = "pkg:rpm/fedora/curl@7.50.3-1?epoch=1\t1:7.50.3-1
+PKG:Rpm/x@1%2B2?arch=a&EPOCH=01\t01:1+2
+pkg:rpm/x@1?epoch=\t1
+pkg:rpm/x@1?epoch2=3\t1
+pkg:deb/x@1?epoch=1\t1
+pkg:rpm/x?epoch=1\tnone";
+
 fn shown(alloc: Global, fault: PurlFault) -> Result<String, AllocError> {
     match fault {
         PurlFault::Scheme => format!(in alloc; "Scheme"),
@@ -183,6 +191,22 @@ fn names_schemes(rt: HostRuntime) -> Result<(), Fail> {
         };
         let purl = read(rt.alloc(), text)?;
         assert_eq!(rt; scheme_text(&purl), want, "of {text}");
+    }
+    Ok(())
+}
+
+#[test]
+fn gives_candidates(rt: HostRuntime) -> Result<(), Fail> {
+    for line in CANDIDATES.lines() {
+        let Some((text, want)) = line.split_once('\t') else {
+            assert!(rt; false, "no tab in {line}");
+            return Ok(());
+        };
+        let purl = read(rt.alloc(), text)?;
+        match candidate(rt.alloc(), purl)? {
+            Some(found) => assert_eq!(rt; found.as_str(), want, "of {text}"),
+            None => assert_eq!(rt; "none", want, "of {text}"),
+        }
     }
     Ok(())
 }

@@ -1,6 +1,6 @@
--- The operators that compare with one version, as RubyGems and RPM write them: their signs, the orders that they ask for,
--- and their spans.
-use Rattle.std.specs.Prelude.{ℕ, Bool, List, codes}
+-- The operators that compare with one version, as RubyGems (`Gem::Requirement`) and RPM (the reference manual, "Dependencies")
+-- write them: their signs, the orders that they ask for, and their spans.
+use Rattle.std.specs.Prelude.{◌==◌, ◌||◌, ℕ, Bool, List, codes}
 use Rattle.std.specs.Ordering.{is_eq, is_lt, is_le, is_gt, is_ge}
 use Rattle.std.specs.declared.cmp.Ordering.{Ordering}
 use Rattle.vx_scheme.specs.declared.span.Span.{Span}
@@ -15,6 +15,10 @@ signs_of LessOrEqual = codes "<="
 signs_of Equal = codes "="
 signs_of GreaterOrEqual = codes ">="
 signs_of Greater = codes ">"
+
+-- '<' (60), '=' (61) or '>' (62): a byte of a comparison's signs, and of those of Debian's operators
+abbrev pub is_sign : ℕ → Bool
+is_sign b = b == 60 || b == 61 || b == 62
 
 -- how a version has to compare with the operator's
 abbrev pub is_so : Comparison → Ordering → Bool

@@ -4,5 +4,6 @@ pub mod Holds
 pub mod Spans
 pub mod Refusals
 pub mod Range
+pub mod Sizes
 pub mod Back
 pub mod Members

@@ -1,8 +1,8 @@
 pub mod Reading
 pub mod Written
-pub mod Gaps
 pub mod Compared
 pub mod Range
+pub mod NoEnd
 pub mod DebTable
 pub mod DebRange
 pub mod DebWritten
@@ -11,8 +11,14 @@ pub mod GemTable
 pub mod GemRange
 pub mod GemWords
 pub mod GemBack
+pub mod GemLetters
+pub mod GemApart
 pub mod RpmOrder
 pub mod RpmTable
 pub mod RpmRange
 pub mod RpmWords
 pub mod RpmBack
+pub mod RpmLetters
+pub mod RpmTokens
+pub mod RpmApart
+pub mod Sizes

@@ -5,6 +5,7 @@ ghost use Rattle.relation_ranges.specs.Comparison.{signs_of, spans_of};
 use std::alloc::Global;
 use vx_range::{push_above, push_below, push_from, push_point, push_up_to};
 use vx_scheme::{NoMemory, Scheme, Spans};
+use vx_text::ByteClass;
 
 /// An operator that compares with one version, as RubyGems and RPM write it.
 #[derive(Debug, Clone, Copy, PartialEq, Eq)]
@@ -19,6 +20,19 @@ pub enum Comparison {
     GreaterOrEqual,
     /// `>`
     Greater,
+}
+
+/// The bytes `<`, `=` and `>`, of which comparisons and Debian's operators are written.
+pub struct RelationSigns;
+
+impl ByteClass for RelationSigns {
+    ghost use Rattle.relation_ranges.specs.Comparison.{is_sign};
+
+    ghost holds = { is_sign };
+
+    fn is_one(byte: u8) -> bool {
+        byte == b'<' || byte == b'=' || byte == b'>'
+    }
 }
 
 /// The comparison that is written so; `None` exactly where none is.

@@ -7,5 +7,5 @@ mod table;
 
 #[cfg(test)]
 pub(crate) use back::text_of;
-pub use operators::{Operator, RelationSigns};
+pub use operators::Operator;
 pub use range::{DebRange, deb_one_answer, deb_relation_is_its_span, deb_term_is_its_spans};

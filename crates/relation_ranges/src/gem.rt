@@ -1,4 +1,5 @@
-//! RubyGems' requirements, after `Gem::Requirement`: comparisons, `!=` and `~>`, parted by commas.
+//! RubyGems' requirements, after `Gem::Requirement`: comparisons, `!=` and `~>`. That they stand in one text, parted by commas,
+//! is this project's own: `Gem::Requirement` takes a list of texts.
 
 mod back;
 mod operators;

@@ -1,9 +1,18 @@
+ghost use Rattle.std.specs.Prelude.{◌≡◌, ℕ, Err, IfErr, IfOk};
+ghost use Rattle.vx_scheme.specs.declared.range_fault.EndKind.{EndKind};
+ghost use Rattle.vx_scheme.specs.declared.range_fault.RangeFault.TheVariants.{NoEndpoint};
+ghost use Rattle.vx_scheme.specs.Native.{Refused, by_domain};
+ghost use Rattle.relation_ranges.specs.NoEnd.{HasNoEnd};
+ghost use Rattle.relation_ranges.specs.Range.{Makes, Refuses};
+
 use crate::reading::read_relation;
 use crate::relations::{BackForm, Relation, Relations};
 use std::alloc::{AllocError, Global};
 use std::cmp::Ordering;
 use std::marker::PhantomData;
-use vx_range::{Language, Making, Outcome, Piece, PieceReading, bounds_of_terms, group_list};
+use vx_range::{
+    Groups, Language, Making, Outcome, Piece, PieceReading, bounds_of_terms, group_list,
+};
 use vx_scheme::{
     BackFault, Bounds, Domain, Native, NoMemory, RangeFault, Scheme, SchemeName, Spans, Text,
     VersionFault,
@@ -104,7 +113,7 @@ impl<R: Relations> Language for RelationRange<R> {
 
     ghost pieces = { piece_laws R.Signs.holds R.HasSigns R.Spells R.first_past R.one_operator R.texts.spells_one };
 
-    fn cut_text(alloc: Global, text: &[u8]) -> Result<Vec<Vec<Piece<'_, ()>>>, AllocError> {
+    fn cut_text(alloc: Global, text: &[u8]) -> Result<Groups<'_, ()>, AllocError> {
         group_list(alloc, text, R::bar())
     }
 
@@ -152,7 +161,14 @@ impl<R: BackForm> Native for RelationRange<R> {
     /// The spans of the relations: one alternative, whose terms are those of the text. `Syntax` comes where a piece is no
     /// relation, then `Numeral` where one of its numerals is past the limit, then `NoEndpoint` where a relation has no end
     /// in the domain, then `Numeral` where one would be raised past the limit; each names the first such place.
-    fn bounds(alloc: Global, text: &str, domain: Domain) -> Result<Bounds<R::Version>, RangeFault> {
+    /// Where `NoEndpoint` comes, no list of versions holds what the relation does.
+    fn bounds(alloc: Global, text: &str, domain: Domain) -> Result<Bounds<R::Version>, RangeFault>
+        ensures ok { IfOk result (λ bounds. Makes R.bar R.Signs.holds R.HasSigns R.Spells R.first_past R.outcome R.spans domain text.now bounds) }
+        ensures err { IfErr result (Refused (Refuses R.bar R.Signs.holds R.HasSigns R.Spells R.first_past R.outcome domain text.now)) }
+        ensures no_end { (kind : EndKind) (at : ℕ) → result ≡ Err (NoEndpoint kind at) →
+            HasNoEnd R.bar R.Signs.holds R.HasSigns R.Spells R.order R.IsVersion (by_domain R.InAll R.IsRelease) R.outcome R.holds
+            R.size R.Tells domain text.now kind at }
+    {
         bounds_of_terms::<RelationRange<R>>(alloc, text, domain)
     }
 

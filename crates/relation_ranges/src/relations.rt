@@ -24,9 +24,11 @@ pub trait Relations: Scheme {
     ghost use Rattle.std.specs.Prelude.{Bool, Option};
     ghost use Rattle.std.specs.Str.{IsUtf8};
     ghost use Rattle.vx_scheme.specs.declared.domain.Domain.{Domain};
+    ghost use Rattle.vx_scheme.specs.declared.range_fault.EndKind.{EndKind};
     ghost use Rattle.vx_scheme.specs.declared.span.Span.{Span};
     ghost use Rattle.vx_scheme.specs.Cuts.{cuts_of, in_spans};
     ghost use Rattle.vx_range.specs.declared.making.Outcome.{Outcome};
+    ghost use Rattle.vx_range.specs.Apart.{AreToldApart};
 
     /// The operators.
     type Operator: Drop;
@@ -57,6 +59,12 @@ pub trait Relations: Scheme {
 
     /// The operator holds between its version, which comes first, and another.
     ghost holds: { Self.Operator → Self.Version → Self.Version → Bool };
+
+    /// The size of a version. It matters only where some operator has no end.
+    ghost size: { Self.Version → ℕ };
+
+    /// The two versions that an operator and its version, which comes first, tell apart for a number.
+    ghost Tells: { ℕ → Self.Operator → Self.Version → Self.Version → Self.Version → Type 0 };
 
     /// Whether translations may name the domain. It takes no memory.
     fn offers(domain: Domain) -> bool
@@ -111,6 +119,17 @@ pub trait Relations: Scheme {
     ghost agrees: { (domain : Domain) (mark : ℕ) (operator : Self.Operator) (bound v : Self.Version) →
         Self.IsVersion v → InDomain Self.Scheme domain v → outcome domain operator bound ≡ made.Spans →
         in_spans Self.order (spans domain mark operator bound) v ≡ holds operator bound v };
+
+    /// Where they have no end there are such two for each number.
+    ghost some_told: { (domain : Domain) (operator : Self.Operator) (bound : Self.Version) (kind : EndKind) →
+        outcome domain operator bound ≡ made.NoEnd kind → (n : ℕ) →
+        (v : Self.Version) × (w : Self.Version) × Tells n operator bound v w };
+
+    /// And these are told apart: versions of the domain, of which the operator holds of one alone, while each version whose
+    /// size is at most the number compares alike with both.
+    ghost told_apart: { (domain : Domain) (operator : Self.Operator) (bound : Self.Version) (kind : EndKind) (n : ℕ)
+        (v w : Self.Version) → Self.IsVersion bound → outcome domain operator bound ≡ made.NoEnd kind → Tells n operator bound v w →
+        AreToldApart Self.order Self.IsVersion (InDomain Self.Scheme domain) size (holds operator bound) n v w };
 }
 
 /// A language of relations that prints spans.

@@ -1,4 +1,5 @@
-//! RPM's relations, after rpm's dependencies: comparisons parted by commas.
+//! RPM's relations: the comparisons of rpm's dependencies. That they stand in one text, parted by commas, and the test of one
+//! version are this project's own.
 
 mod back;
 mod range;
@@ -6,4 +7,7 @@ mod table;
 
 #[cfg(test)]
 pub(crate) use back::text_of;
-pub use range::{RpmRange, rpm_moved_cut_parts_the_same, rpm_one_answer, rpm_relation_is_its_span};
+pub use range::{
+    RpmRange, rpm_moved_cut_parts_the_same, rpm_one_answer, rpm_refusal_is_necessary,
+    rpm_relation_is_its_span,
+};

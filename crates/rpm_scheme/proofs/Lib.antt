@@ -1,5 +1,4 @@
 pub mod Bytes
-pub mod Cutting
 pub mod PastLaws
 pub mod ReleaseLaws
 pub mod TokenLaws

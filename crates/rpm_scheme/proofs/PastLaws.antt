@@ -1,19 +1,18 @@
 -- A version is within the limit exactly where no numeral of its text is past it.
-use Rattle.std.proofs.Common.{◌≡◌, ◌↔◌, ◌<◌, ◌≤◌, ◌+◌, ◌^◌, ◌++◌, not, ℕ, zero, suc, true, false, List, [], ◌∷◌, length, refl, sym, ap, ◌∙◌, subst, Option, Some, None, inl, inr, arith, append-nil}
-use Rattle.std.specs.List.{AllByRecursion, list_all}
+use Rattle.std.proofs.Common.{◌≡◌, ◌↔◌, ◌<◌, ◌≤◌, ◌+◌, ◌^◌, ◌++◌, ℕ, zero, suc, true, false, List, [], ◌∷◌, length, refl, sym, subst, Option, Some, None, inl, inr, arith}
+use Rattle.std.specs.List.{AllByRecursion}
 use Rattle.std.specs.Char.{is_ascii_digit, is_ascii_alphabetic}
-use Rattle.std.proofs.lemmas.Bool.{and_parts, cases_Bool, lt-ltb}
-use Rattle.std.proofs.lemmas.Bool.Decides.{nat_tests}
-use Rattle.vx_spec.specs.Marks.{in_front, marked}
-use Rattle.vx_spec.specs.Numerals.{is_numeral, value}
+use Rattle.std.proofs.lemmas.Bool.{cases_Bool}
+use Rattle.vx_spec.specs.Marks.{marked}
 use Rattle.vx_spec.specs.Runs.{begins, run, past}
-use Rattle.vx_spec.proofs.RunLaws.{run_stays, run_past, past_begins, run_all, one_run}
+use Rattle.vx_spec.proofs.RunLaws.{run_past, past_begins, run_all}
 use Rattle.vx_spec.proofs.EachLaws.{each_append, each_behind}
-use Rattle.vx_text.specs.Past.{is_past, first_past, NonePast}
-use Rattle.vx_text.proofs.PastLaws.{none_past, none_behind, none_after, run_front, none_front, none_run}
-use Rattle.rpm_scheme.specs.Version.{Fields, IsWithin, LetterIsWithin, ReleaseIsWithin, hyphen, first_letters, behind_first, letters_in, letters_of}
-use Rattle.rpm_scheme.specs.Spelling.{Parts, AreVersionParts, Spells, colon, whole, is_epoch, epoch_value, release_letters, version_of}
-use Rattle.rpm_scheme.specs.Laws.Unique.{numeral_bytes}
+use Rattle.vx_text.specs.Past.{first_past, NonePast}
+use Rattle.vx_text.proofs.PastLaws.{first_none, no_digit, none_after, none_behind, none_digits, none_front, none_join, none_number, none_past, none_word, numeral_bytes, numeral_within}
+use Rattle.rpm_scheme.specs.Version.{Fields, IsWithin, LetterIsWithin, ReleaseIsWithin, first_letters, behind_first, letters_in, letters_of}
+use Rattle.vx_text.specs.EpochParts.{Parts, hyphen, whole}
+use Rattle.vx_text.proofs.EpochLaws.{none_whole, whole_within}
+use Rattle.rpm_scheme.specs.Spelling.{AreVersionParts, Spells, release_letters, version_of}
 use Rattle.rpm_scheme.proofs.TokenLaws.{behind_less, behind_digits, behind_word, behind_sign, first_front, first_number, first_word, first_sign}
 
 -- ---- versions without a numeral past the limit are within it
@@ -52,63 +51,15 @@ release_within : (part : Option (List ℕ)) → NonePast (marked hyphen part) �
 release_within None none = tt
 release_within (Some part) none = part_within part none.1
 
-digits_within : (part : List ℕ) → is_numeral part ≡ true → NonePast part → value part < 2 ^ 128
-digits_within part is none =
-    let all = numeral_bytes part is in
-    let whole' : run is_ascii_digit part ≡ part = ap (run is_ascii_digit) (sym (append-nil part)) ∙ (one_run is_ascii_digit part [] all refl).0 in
-    subst (λ r. value r < 2 ^ 128) whole' (none_run part none)
-
-epoch_within : (part : Option (List ℕ)) (rest : List ℕ) → is_epoch part ≡ true → NonePast (in_front colon part rest) → (epoch_value part < 2 ^ 128) × NonePast rest
-epoch_within None rest is none = (omega arith, none)
-epoch_within (Some part) rest is none =
-    (digits_within part is (none_front part (colon ∷ rest) refl none), (none_behind part (colon ∷ rest) none).1)
-
-marked_begins : (part : Option (List ℕ)) → begins is_ascii_digit (marked hyphen part) ≡ false
-marked_begins None = refl
-marked_begins (Some part) = refl
-
 parts_within : (text : List ℕ) (p : Parts) → AreVersionParts p → NonePast (whole p) → IsWithin (version_of text p)
 parts_within text p form none =
-    let rest = epoch_within p.epoch (p.version ++ marked hyphen p.release) form.epoch none in (
-      rest.0,
-      part_within p.version (none_front p.version (marked hyphen p.release) (marked_begins p.release) rest.1),
-      release_within p.release (none_behind p.version (marked hyphen p.release) rest.1),
-    )
+    let rest = whole_within p form.epoch none in
+    (rest.0, part_within p.main rest.1, release_within p.last rest.2)
 
 pub version_within : (text : List ℕ) (v : Fields) → Spells text v → NonePast text → IsWithin v
 version_within text v s none = subst IsWithin (sym s.values) (parts_within text s.parts s.form (subst NonePast s.joined none))
 
 -- ---- and the other way round
-
-not_past : (digits : List ℕ) → value digits < 2 ^ 128 → is_past digits ≡ false
-not_past digits small = ap not (lt-ltb (value digits) (2 ^ 128) small)
-
-first_none : (at : ℕ) (text : List ℕ) → NonePast text → first_past at text ≡ None
-first_none at [] h = refl
-first_none at (b ∷ text) h = rw (not_past (run is_ascii_digit (b ∷ text)) h.0) (first_none (at + 1) text h.1)
-
-no_digit : (b : ℕ) (text : List ℕ) → is_ascii_digit b ≡ false → value (run is_ascii_digit (b ∷ text)) < 2 ^ 128
-no_digit b text other = rw (run_stays is_ascii_digit b text other) (omega arith)
-
-none_join : (xs ys : List ℕ) → begins is_ascii_digit ys ≡ false → NonePast xs → NonePast ys → NonePast (xs ++ ys)
-none_join [] ys none p q = q
-none_join (x ∷ xs) ys none p q = (subst (λ r. value r < 2 ^ 128) (sym (run_front (x ∷ xs) ys none)) p.0, none_join xs ys none p.1 q)
-
-letter_no_digit : (b : ℕ) → is_ascii_alphabetic b ≡ true → is_ascii_digit b ≡ false
-letter_no_digit b is = grind (arith, nat_tests)
-
-none_word : (word ys : List ℕ) → list_all is_ascii_alphabetic word ≡ true → NonePast ys → NonePast (word ++ ys)
-none_word [] ys all q = q
-none_word (x ∷ word) ys all q =
-    let a = and_parts (is_ascii_alphabetic x) (list_all is_ascii_alphabetic word) all in
-    (no_digit x (word ++ ys) (letter_no_digit x a.0), none_word word ys a.1 q)
-
-none_digits : (digits : List ℕ) → list_all is_ascii_digit digits ≡ true → value digits < 2 ^ 128 → NonePast digits
-none_digits [] all small = tt
-none_digits (d ∷ digits) all small =
-    let whole' : run is_ascii_digit (d ∷ digits) ≡ d ∷ digits = ap (run is_ascii_digit) (sym (append-nil (d ∷ digits))) ∙ (one_run is_ascii_digit (d ∷ digits) [] all refl).0 in
-    let less : value digits < 2 ^ 128 = omega (arith, small) in
-    (subst (λ r. value r < 2 ^ 128) (sym whole') small, none_digits digits (and_parts (is_ascii_digit d) (list_all is_ascii_digit digits) all).1 less)
 
 -- a token within the limit, with nothing past the limit behind it
 none_here : (b : ℕ) (part : List ℕ) → AllByRecursion LetterIsWithin (first_letters (b ∷ part)) → NonePast (behind_first (b ∷ part)) → NonePast (b ∷ part)
@@ -118,7 +69,7 @@ none_here b part fits rest = elim (cases_Bool (is_ascii_digit b)) [
       let number = (subst (AllByRecursion LetterIsWithin) (first_number b part digit) fits).0 in
       let behind = subst NonePast (behind_digits b part digit) rest in
       subst NonePast (sym (run_past is_ascii_digit (b ∷ part)))
-      (none_join digits (past is_ascii_digit (b ∷ part)) (past_begins is_ascii_digit (b ∷ part)) (none_digits digits (run_all is_ascii_digit (b ∷ part)) number) behind)
+      (none_number digits (past is_ascii_digit (b ∷ part)) (run_all is_ascii_digit (b ∷ part)) (past_begins is_ascii_digit (b ∷ part)) number behind)
   | inr other ↦ elim (cases_Bool (is_ascii_alphabetic b)) [
     | inl letter ↦
         let behind = subst NonePast (behind_word b part other letter) rest in
@@ -144,16 +95,8 @@ none_marked : (part : Option (List ℕ)) → ReleaseIsWithin (release_letters pa
 none_marked None all = tt
 none_marked (Some part) all = (no_digit hyphen part refl, none_part part all)
 
-none_epoch : (part : Option (List ℕ)) (rest : List ℕ) → is_epoch part ≡ true → epoch_value part < 2 ^ 128 → NonePast rest → NonePast (in_front colon part rest)
-none_epoch None rest is small none = none
-none_epoch (Some part) rest is small none =
-    let all = numeral_bytes part is in
-    none_join part (colon ∷ rest) refl (none_digits part all small) (no_digit colon rest refl, none)
-
 parts_none : (text : List ℕ) (p : Parts) → AreVersionParts p → IsWithin (version_of text p) → NonePast (whole p)
-parts_none text p form fits =
-    none_epoch p.epoch (p.version ++ marked hyphen p.release) form.epoch fits.0
-    (none_join p.version (marked hyphen p.release) (marked_begins p.release) (none_part p.version fits.1) (none_marked p.release fits.2))
+parts_none text p form fits = none_whole p form.epoch fits.0 (none_part p.main fits.1) (none_marked p.last fits.2)
 
 pub version_none : (text : List ℕ) (v : Fields) → Spells text v → IsWithin v → NonePast text
 version_none text v s fits = subst NonePast (sym s.joined) (parts_none text s.parts s.form (subst IsWithin s.values fits))

@@ -8,9 +8,11 @@ use Rattle.vx_spec.proofs.RunLaws.{one_run}
 use Rattle.vx_spec.proofs.TextLaws.{test_by_each}
 use Rattle.std.proofs.lemmas.List.{take_at}
 use Rattle.std.proofs.lemmas.Bool.{ne_eqb, not_from_false}
-use Rattle.rpm_scheme.specs.Version.{Fields, hyphen, is_no_hyphen, front_text, without_release}
-use Rattle.rpm_scheme.specs.Spelling.{Parts, AreVersionParts, IsVersion, colon, is_epoch, whole}
-use Rattle.rpm_scheme.specs.Laws.Unique.{part_lacks, epoch_lacks}
+use Rattle.vx_text.specs.EpochParts.{Parts, colon, hyphen, is_epoch, whole}
+use Rattle.vx_text.proofs.EpochLaws.{epoch_lacks}
+use Rattle.rpm_scheme.specs.Version.{Fields, is_no_hyphen, front_text, without_release}
+use Rattle.rpm_scheme.specs.Spelling.{AreVersionParts, IsVersion}
+use Rattle.rpm_scheme.specs.Laws.Unique.{part_lacks}
 
 no_hyphens : (text : List ℕ) → Lacks hyphen text → list_all is_no_hyphen text ≡ true
 no_hyphens text lacks = test_by_each (λ b. ¬ (b ≡ hyphen)) is_no_hyphen text (λ b other. not_from_false _ (ne_eqb b hyphen other)) lacks
@@ -29,10 +31,10 @@ cut_taken text front behind cut = ap (take (length front)) cut.joined ∙ take_a
 
 -- the parts without the release
 abbrev front_parts : Parts → Parts
-front_parts p = record { epoch = p.epoch; version = p.version; release = None }
+front_parts p = record { epoch = p.epoch; main = p.main; last = None }
 
 front_form : (p : Parts) → AreVersionParts p → AreVersionParts (front_parts p)
-front_form p form = record { epoch = form.epoch; version = form.version; release = refl }
+front_form p form = record { epoch = form.epoch; main = form.main; last = refl; alone = λ _. part_lacks hyphen refl p.main form.main }
 
 front_lacks : (epoch : Option (List ℕ)) (version : List ℕ) → is_epoch epoch ≡ true → Lacks hyphen version → Lacks hyphen (in_front colon epoch version)
 front_lacks None version is lacks = lacks
@@ -43,11 +45,11 @@ front_joined None version rest = refl
 front_joined (Some part) version rest = sym (append_assoc part (colon ∷ version) rest)
 
 -- what stands before the '-' is the epoch and the version
-parts_cut : (p : Parts) → AreVersionParts p → IsCut hyphen (whole p) (in_front colon p.epoch p.version) p.release
-parts_cut p form = record { joined = front_joined p.epoch p.version (marked hyphen p.release); first = front_lacks p.epoch p.version form.epoch (part_lacks hyphen refl p.version form.version) }
+parts_cut : (p : Parts) → AreVersionParts p → IsCut hyphen (whole p) (in_front colon p.epoch p.main) p.last
+parts_cut p form = record { joined = front_joined p.epoch p.main (marked hyphen p.last); first = front_lacks p.epoch p.main form.epoch (part_lacks hyphen refl p.main form.main) }
 
 front_whole : (p : Parts) → AreVersionParts p → front_text (whole p) ≡ whole (front_parts p)
-front_whole p form = cut_front (whole p) (in_front colon p.epoch p.version) p.release (parts_cut p form) ∙ ap (in_front colon p.epoch) (sym (append-nil p.version))
+front_whole p form = cut_front (whole p) (in_front colon p.epoch p.main) p.last (parts_cut p form) ∙ ap (in_front colon p.epoch) (sym (append-nil p.main))
 
 -- it spells the version without its release
 pub front_spells : (v : Fields) → IsVersion v → IsVersion (without_release v)

@@ -1,14 +1,11 @@
 -- The letters of a part, token by token.
 use Rattle.std.proofs.Common.{◌≡◌, ◌≢◌, ◌≤◌, ◌<◌, ◌++◌, ℕ, zero, suc, List, [], ◌∷◌, length, true, false, eqb, refl, sym, ap, ◌∙◌, subst, append_assoc, inl, inr, arith}
-use Rattle.std.specs.List.{AllByRecursion, list_all}
+use Rattle.std.specs.List.{AllByRecursion}
 use Rattle.std.specs.Char.{is_ascii_digit, is_ascii_alphabetic}
-use Rattle.std.specs.Str.{IsUtf8}
 use Rattle.std.proofs.lemmas.Bool.{cases_Bool}
-use Rattle.std.proofs.lemmas.Bool.Decides.{nat_tests}
 use Rattle.vx_spec.specs.Runs.{run, past}
 use Rattle.vx_spec.proofs.RunLaws.{past_less}
 use Rattle.vx_spec.proofs.EachLaws.{each_behind}
-use Rattle.vx_spec.proofs.TextLaws.{each_by_test, utf8_by_each}
 use Rattle.vx_order.specs.declared.letter.Letter.{Letter}
 use Rattle.rpm_scheme.specs.Version.{tilde, caret, number_letter, word_letter, sign_letters, first_letters, behind_first, letters_in, letters_of, LetterIsWithin}
 
@@ -88,10 +85,3 @@ one_more letters all rest some joined =
 pub behind_shorter : (rest : List ℕ) → rest ≢ [] → length (behind_first rest) < length rest
 behind_shorter [] some = absurd (some refl)
 behind_shorter (b ∷ rest) some = omega (arith, behind_less b rest)
-
-letter_small : (b : ℕ) → is_ascii_alphabetic b ≡ true → b < 128
-letter_small b is = grind (arith, nat_tests)
-
--- a word is UTF-8
-pub word_utf8 : (text : List ℕ) → list_all is_ascii_alphabetic text ≡ true → IsUtf8 text
-word_utf8 text all = utf8_by_each text (each_by_test (λ b. b < 128) is_ascii_alphabetic text letter_small all)

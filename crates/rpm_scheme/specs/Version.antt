@@ -5,6 +5,7 @@ use Rattle.std.specs.Char.{is_ascii_alphabetic, is_ascii_digit}
 use Rattle.std.specs.List.{AllByRecursion}
 use Rattle.vx_spec.specs.Numerals.{value}
 use Rattle.vx_spec.specs.Runs.{run, past}
+use Rattle.vx_text.specs.EpochParts.{hyphen}
 use Rattle.vx_order.specs.declared.letter.Letter.{Letter}
 
 -- the fields: the text as it is written, the epoch, the letters of the version, and those of the release where there is one
@@ -82,11 +83,7 @@ letters_in (suc most) (b ∷ part) = first_letters (b ∷ part) ++ letters_in mo
 abbrev pub letters_of : List ℕ → List Letter
 letters_of part = letters_in (length part) part
 
--- the byte '-'
-abbrev pub hyphen : ℕ
-hyphen = 45
-
--- any other byte
+-- a byte other than '-'
 abbrev pub is_no_hyphen : ℕ → Bool
 is_no_hyphen b = not (b == hyphen)
 

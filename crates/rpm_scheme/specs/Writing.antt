@@ -1,4 +1,4 @@
--- The normal text of a version: the text as it is written.
+-- The normal text of a version of rpm-version(7): the text as it is written.
 use Rattle.std.specs.Prelude.{ℕ, List}
 use Rattle.rpm_scheme.specs.Version.{Fields}
 

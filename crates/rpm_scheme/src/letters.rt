@@ -10,7 +10,7 @@ use std::alloc::Global;
 use std::str;
 use vx_order::{Letter, Letters};
 use vx_scheme::{NoMemory, Text, VersionFault};
-use vx_text::{ByteClass, Digits, cut_run, number_of};
+use vx_text::{Alphabetic, Digits, cut_run, number_of};
 
 // The ranks of letters.
 const TILDE: u32 = 0;
@@ -20,19 +20,6 @@ const CARET: u32 = 2;
 const WORD: u32 = 3;
 
 const NUMBER: u32 = 4;
-
-// The ASCII letters.
-struct Alphabetic;
-
-impl ByteClass for Alphabetic {
-    ghost use Rattle.std.specs.Char.{is_ascii_alphabetic};
-
-    ghost holds = { is_ascii_alphabetic };
-
-    fn is_one(byte: u8) -> bool {
-        byte.is_ascii_alphabetic()
-    }
-}
 
 // What stands at the front of a part.
 #[derive(Clone, Copy)]

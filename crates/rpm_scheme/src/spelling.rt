@@ -1,31 +1,43 @@
-ghost use Rattle.std.specs.Prelude.{◌<◌, ◌^◌, ◌↔◌, ◌≡◌, IfErr, IfOk, IsTrue, MatchOption};
-ghost use Rattle.rpm_scheme.specs.Spelling.{AreVersionParts, IsVersionText, Spells, epoch_value, is_epoch, is_part, is_part_byte, is_release_part, release_letters, version_of};
-ghost use Rattle.rpm_scheme.specs.Version.{IsWithin, ReleaseIsWithin};
-ghost use Rattle.vx_scheme.specs.Scheme.{Refuses};
-ghost use Rattle.rpm_scheme.specs.Steps.Written.{IsVersionWritten, NoVersionWritten, parts};
-ghost use Rattle.rpm_scheme.specs.Steps.Apart.{IsApart};
-ghost use Rattle.std.specs.Option.{option_copied};
-ghost use Rattle.vx_spec.specs.Runs.{begins};
+ghost use Rattle.std.specs.Prelude.{◌↔◌, ◌≡◌, IfErr, IfOk, IsTrue};
 ghost use Rattle.std.specs.Char.{is_ascii_alphanumeric};
 ghost use Rattle.std.specs.List.{list_all};
+ghost use Rattle.std.specs.Option.{option_copied};
+ghost use Rattle.vx_spec.specs.Runs.{begins};
+ghost use Rattle.vx_scheme.specs.Scheme.{Refuses};
 ghost use Rattle.vx_scheme.specs.Values.{Gives};
+ghost use Rattle.vx_text.specs.EpochParts.{IsMadeOf, parts};
+ghost use Rattle.rpm_scheme.specs.Version.{IsWithin, ReleaseIsWithin};
+ghost use Rattle.rpm_scheme.specs.Spelling.{IsVersionText, Spells, is_part, is_part_byte, release_letters, version_of};
 
 use crate::letters::letters;
 use crate::version::RpmVersion;
 use std::alloc::Global;
 use vx_order::Letters;
 use vx_scheme::{Text, VersionFault};
-use vx_text::{cut_bytes, first_cut, is_numeral, numeral_of};
+use vx_text::{EpochParts, PartForms, epoch_number, epoch_parts, has_epoch_parts};
 
-/// The parts of a version's text, as they are written.
-#[derive(Clone, Copy)]
-pub(crate) struct Written<'a> {
-    /// What stands before the first `:`, where there is one.
-    pub(crate) epoch: Option<&'a str>,
-    /// The version.
-    pub(crate) version: &'a [u8],
-    /// What stands behind the first `-`, where there is one.
-    pub(crate) release: Option<&'a [u8]>,
+// The forms of the version, which is the main part, and of the release, which is the last.
+struct Forms;
+
+impl PartForms for Forms {
+    ghost use Rattle.rpm_scheme.specs.Spelling.{is_part};
+    ghost use Rattle.rpm_scheme.specs.Laws.Unique.{release_lacks, version_lacks};
+
+    ghost main_form = { is_part };
+
+    ghost last_form = { is_part };
+
+    ghost main_lacks = { version_lacks };
+
+    ghost last_lacks = { release_lacks };
+
+    fn is_main(part: &[u8]) -> bool {
+        is_part(part)
+    }
+
+    fn is_last(part: &[u8]) -> bool {
+        is_part(part)
+    }
 }
 
 /// The version that the text spells. The forms of the parts are tested before a value is made, so that `NotAVersion`
@@ -34,66 +46,17 @@ pub(crate) fn read(alloc: Global, text: &str) -> Result<RpmVersion, VersionFault
     ensures ok { IfOk result (λ v. Spells text.now v × IsWithin v) }
     ensures err { IfErr result (Refuses Spells IsWithin text.now) }
 {
-    let Some(written) = take_apart(text) else {
+    let Some(found) = epoch_parts::<Forms>(text) else {
         return Err(VersionFault::NotAVersion);
     };
-    version_of_parts(alloc, text, &written)
-}
-
-/// The parts of a version's text, each of which has its form; `None` exactly where the text has no such parts. It
-/// takes no memory.
-fn take_apart(text: &str) -> Option<Written<'_>>
-    ensures { MatchOption result (NoVersionWritten text.now) (λ w. IsVersionWritten text.now (parts w)) }
-{
-    let written = cut_apart(text);
-    if has_form(&written) {
-        Some(written)
-    } else {
-        None
-    }
+    version_of_parts(alloc, text, &found)
 }
 
 /// Whether the text spells a version, with numerals of any length. It takes no memory.
 pub fn is_version(text: &str) -> bool
     ensures { IsTrue result ↔ IsVersionText text.now }
 {
-    has_form(&cut_apart(text))
-}
-
-fn cut_apart(text: &str) -> Written<'_>
-    ensures { IsApart text.now (parts result) }
-{
-    let (epoch, rest) = first_cut(text, ':');
-    let (version, release) = cut_bytes(rest.as_bytes(), b'-');
-    Written {
-        epoch,
-        version,
-        release,
-    }
-}
-
-fn has_form(written: &Written) -> bool
-    ensures { IsTrue result ↔ AreVersionParts (parts written.now) }
-{
-    is_epoch(written.epoch) && is_part(written.version) && is_release(written.release)
-}
-
-fn is_epoch(part: Option<&str>) -> bool
-    ensures { result ≡ is_epoch (option_copied part.entry) }
-{
-    match part {
-        Some(part) => is_numeral(part),
-        None => true,
-    }
-}
-
-fn is_release(part: Option<&[u8]>) -> bool
-    ensures { result ≡ is_release_part (option_copied part.entry) }
-{
-    match part {
-        Some(part) => is_part(part),
-        None => true,
-    }
+    has_epoch_parts::<Forms>(text)
 }
 
 fn is_part(part: &[u8]) -> bool
@@ -128,14 +91,14 @@ fn is_part_byte(byte: u8) -> bool
 fn version_of_parts(
     alloc: Global,
     text: &str,
-    written: &Written,
+    found: &EpochParts,
 ) -> Result<RpmVersion, VersionFault>
-    requires { IsVersionWritten text.now (parts written.now) }
-    ensures { Gives IsWithin result (version_of text.now (parts written.now)) }
+    requires { IsMadeOf is_part is_part text.now (parts found.now) }
+    ensures { Gives IsWithin result (version_of text.now (parts found.now)) }
 {
-    let epoch = epoch_number(written.epoch)?;
-    let version = letters(alloc, written.version)?;
-    let release = release_letters(alloc, written.release)?;
+    let epoch = epoch_number(found.epoch)?;
+    let version = letters(alloc, found.main)?;
+    let release = release_letters(alloc, found.last)?;
     let text = Text::copy_of(alloc, text)?;
     Ok(RpmVersion {
         text,
@@ -143,16 +106,6 @@ fn version_of_parts(
         version,
         release,
     })
-}
-
-fn epoch_number(part: Option<&str>) -> Result<u128, VersionFault>
-    requires { IsTrue (is_epoch (option_copied part)) }
-    ensures { Gives (λ n. n < 2 ^ 128) result (epoch_value (option_copied part.entry)) }
-{
-    match part {
-        Some(part) => numeral_of(part),
-        None => Ok(0),
-    }
 }
 
 fn release_letters(alloc: Global, part: Option<&[u8]>) -> Result<Option<Letters>, VersionFault>

@@ -1,2 +1,3 @@
+pub mod DrillLaws
 pub mod OneLine
 pub mod RowLaws

@@ -6,7 +6,7 @@ use Rattle.vx_scheme.specs.Names.{scheme_named}
 use Rattle.vx_translate.specs.Domains.{chosen_domain}
 use Rattle.vx_batch.specs.declared.request.Request.{Request}
 use Rattle.vx_batch.specs.declared.request.Request.TheVariants.{ToVers, FromVers, Canon, Has, Purl, Same, Check}
-use Rattle.vx_batch.specs.Answers.{AnswersText, AnswersRange, AnswersInDomain, AnswersScheme, AnswersBack, AnswersCanon, AnswersHas, AnswersPurl, AnswersSame, AnswersRequest, AnswersAsked, IsAnswer, IsLineAnswer, IsDecided, IsLine, decided_text, domain_named}
+use Rattle.vx_batch.specs.Answers.{AnswersText, AnswersRange, AnswersInDomain, AnswersScheme, AnswersBack, AnswersCanon, AnswersHas, AnswersPurl, AnswersSame, AnswersCheck, AnswersRequest, AnswersAsked, IsAnswer, IsLineAnswer, IsDecided, IsLine, decision_text, domain_named}
 use Rattle.vx_batch.specs.Fields.{fields_of_line}
 use Rattle.vx_batch.specs.Laws.Requests.{one_asked}
 use Rattle.vx_batch.specs.Steps.OneLine.{HasOneLine}
@@ -29,13 +29,13 @@ module _ {F : Type 0} (none : F) (printed : F → List ℕ) (IsText : List ℕ �
 -- a decision that is one has one text
 module _ (Is : Bool → Type 0) where
   pub one_decided : ((a b : Bool) → Is a → Is b → a ≡ b) → (a b : List ℕ) → IsDecided Is a → IsDecided Is b → a ≡ b
-  one_decided one a b (x, p, e) (y, q, f) = e ∙ ap decided_text (one x y p q) ∙ sym f
+  one_decided one a b (x, p, e) (y, q, f) = e ∙ ap decision_text (one x y p q) ∙ sym f
 
 -- ---- requests, fields and lines
 
 module _ (range : (name : SchemeName) (domain : Domain) (text : List ℕ) → HasOneLine (AnswersRange name domain text)) (back : (domain : Option (Option Domain)) (vers : List ℕ) → HasOneLine (AnswersBack domain vers))
     (canon : (vers : List ℕ) → HasOneLine (AnswersCanon vers)) (has : (vers version : List ℕ) → HasOneLine (AnswersHas vers version)) (purl : (text : List ℕ) → HasOneLine (AnswersPurl text))
-    (same : (first second : List ℕ) → HasOneLine (AnswersSame first second)) where
+    (same : (first second : List ℕ) → HasOneLine (AnswersSame first second)) (check : (purl vers : List ℕ) → HasOneLine (AnswersCheck purl vers)) where
   one_in_domain : (name : SchemeName) (domain : Option (Option Domain)) (text : List ℕ) → HasOneLine (AnswersInDomain name domain text)
   one_in_domain name None text = one_refused (codes "no\t5 BadDomain\t-")
   one_in_domain name (Some domain) text = range name (chosen_domain domain name) text
@@ -51,7 +51,7 @@ module _ (range : (name : SchemeName) (domain : Domain) (text : List ℕ) → Ha
   one_of_request (Has vers version) = has vers version
   one_of_request (Purl text) = purl text
   one_of_request (Same first second) = same first second
-  one_of_request (Check text vers) = one_refused (codes "no\t0 NotBuilt\t-")
+  one_of_request (Check purl vers) = check purl vers
 
   one_of_asked : (asked : Option (Request (List ℕ))) → HasOneLine (AnswersAsked asked)
   one_of_asked None = one_refused (codes "no\t3 BadCommand\t-")

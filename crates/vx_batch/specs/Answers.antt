@@ -1,4 +1,4 @@
--- What a line is answered, by its fields.
+-- What a line is answered, by its fields: this project's own.
 use Rattle.std.specs.Prelude.{◌≡◌, ◌≢◌, ◌<◌, ◌≤◌, ◌⊎◌, ℕ, List, [], ◌++◌, Bool, true, false, Option, Some, None, Ok, Err, if◌then◌else◌, bytes_eq, codes, length}
 use Rattle.std.specs.Str.{IsUtf8}
 use Rattle.vx_spec.specs.Numerals.{numeral_text}
@@ -10,6 +10,8 @@ use Rattle.vx_scheme.specs.declared.range_fault.EndKind.{EndKind}
 use Rattle.vx_scheme.specs.declared.range_fault.EndKind.TheVariants.{GreaterThanFinal, Twiddle, NoRelease, ArbitraryEquality}
 use Rattle.vx_translate.specs.declared.refusal.Refusal.{Refusal}
 use Rattle.vx_translate.specs.declared.refusal.Refusal.TheVariants as refusal_of
+use Rattle.vx_translate.specs.declared.check_refusal.CheckRefusal.{CheckRefusal}
+use Rattle.vx_translate.specs.declared.check_refusal.CheckRefusal.TheVariants as check_refusal_of
 use Rattle.vx_translate.specs.declared.refusal.VersPart.{VersPart}
 use Rattle.vx_translate.specs.declared.refusal.VersPart.TheVariants as part_of
 use Rattle.vx_translate.specs.declared.refusal.BackKind.{BackKind}
@@ -19,7 +21,7 @@ use Rattle.purl_core.specs.declared.fault.PurlFault.{PurlFault}
 use Rattle.purl_core.specs.declared.fault.PurlFault.TheVariants as purl_fault_of
 use Rattle.purl_types.specs.Canonical.{IsCanonical, IsComparedAs}
 use Rattle.vx_translate.specs.Domains.{chosen_domain}
-use Rattle.vx_translate.specs.Names.{IsCanon, IsSameList, IsCanonRefused, IsFromVers, IsSameSet, IsFromVersRefused, IsHas, IsHasRefused, IsTranslated, IsSameRange, IsRefused}
+use Rattle.vx_translate.specs.Names.{IsCanon, IsSameList, IsCanonRefused, IsCheck, IsCheckRefused, IsFromVers, IsSameSet, IsFromVersRefused, IsHas, IsHasRefused, IsTranslated, IsSameRange, IsRefused}
 use Rattle.vx_batch.specs.declared.request.Request.{Request}
 use Rattle.vx_batch.specs.declared.request.Request.TheVariants.{ToVers, FromVers, Canon, Has, Purl, Same, Check}
 use Rattle.vx_batch.specs.Fields.{fields_of_line}
@@ -65,7 +67,6 @@ refusal_line refusal_of.Empty = codes "no\t10 Empty\t-"
 refusal_line (refusal_of.BadVers part k) = (codes "no\t11 BadVers\t" ++ part_text part) ++ (codes " " ++ numeral_text k)
 refusal_line refusal_of.BadVersion = codes "no\t12 BadVersion\t-"
 refusal_line (refusal_of.NoNative kind k) = (codes "no\t13 NoNative\t" ++ back_kind_text kind) ++ (codes " " ++ numeral_text k)
-refusal_line refusal_of.NotBuilt = codes "no\t0 NotBuilt\t-"
 refusal_line refusal_of.NoMemory = []
 
 -- the same for a package URL; the place is 0 where the whole text is meant
@@ -79,34 +80,44 @@ purl_line (purl_fault_of.Qualifier at) = codes "no\t14 BadPurl\tQualifier " ++ n
 purl_line (purl_fault_of.DuplicateKey at) = codes "no\t14 BadPurl\tDuplicateKey " ++ numeral_text at
 purl_line purl_fault_of.NoMemory = []
 
+-- the same for a check
+abbrev pub check_line : CheckRefusal → List ℕ
+check_line (check_refusal_of.Vers refusal) = refusal_line refusal
+check_line (check_refusal_of.BadPurl fault) = purl_line fault
+check_line check_refusal_of.NoVersion = codes "no\t15 NoVersion\t-"
+check_line check_refusal_of.NoScheme = codes "no\t16 NoScheme\t-"
+check_line check_refusal_of.NoMemory = []
+
 -- a line that is refused so
 abbrev pub IsLine : List ℕ → Bool → List ℕ → Type 0
 IsLine refused ok line = (ok ≡ false) × (line ≡ refused)
-
-abbrev pub IsNotBuilt : Bool → List ℕ → Type 0
-IsNotBuilt = IsLine (codes "no\t0 NotBuilt\t-")
 
 -- an accepted line: `ok`, a tab and a text of which this holds; or a line that is refused so
 abbrev pub AnswersText : (List ℕ → Type 0) → (List ℕ → Type 0) → Bool → List ℕ → Type 0
 AnswersText IsText IsRefusal true line = (text : List ℕ) × IsText text × (line ≡ codes "ok\t" ++ text)
 AnswersText IsText IsRefusal false line = IsRefusal line
 
--- the line of a refusal that comes here
-abbrev pub IsRefusalLine : (Refusal → Type 0) → List ℕ → Type 0
-IsRefusalLine Refuses line = (refusal : Refusal) × (refusal ≢ refusal_of.NoMemory) × Refuses refusal × (line ≡ refusal_line refusal)
+-- the printed line of a refusal that comes here and is not want of memory
+abbrev pub IsLineOf : {F : Type 0} → F → (F → List ℕ) → (F → Type 0) → List ℕ → Type 0
+IsLineOf {F} no_memory printed Refuses line = (refusal : F) × (refusal ≢ no_memory) × Refuses refusal × (line ≡ printed refusal)
 
--- the same for a package URL
+abbrev pub IsRefusalLine : (Refusal → Type 0) → List ℕ → Type 0
+IsRefusalLine = IsLineOf refusal_of.NoMemory refusal_line
+
 abbrev pub IsPurlRefusalLine : (PurlFault → Type 0) → List ℕ → Type 0
-IsPurlRefusalLine Refuses line = (fault : PurlFault) × (fault ≢ purl_fault_of.NoMemory) × Refuses fault × (line ≡ purl_line fault)
+IsPurlRefusalLine = IsLineOf purl_fault_of.NoMemory purl_line
+
+abbrev pub IsCheckRefusalLine : (CheckRefusal → Type 0) → List ℕ → Type 0
+IsCheckRefusalLine = IsLineOf check_refusal_of.NoMemory check_line
 
 -- `yes` or `no`
-abbrev pub decided_text : Bool → List ℕ
-decided_text true = codes "yes"
-decided_text false = codes "no"
+abbrev pub decision_text : Bool → List ℕ
+decision_text true = codes "yes"
+decision_text false = codes "no"
 
 -- the text of a decision of which this holds
 abbrev pub IsDecided : (Bool → Type 0) → List ℕ → Type 0
-IsDecided Is text = (decision : Bool) × Is decision × (text ≡ decided_text decision)
+IsDecided Is text = (decision : Bool) × Is decision × (text ≡ decision_text decision)
 
 -- `to-vers`: the VERS text, which holds the same versions, or the refusal
 abbrev pub AnswersRange : SchemeName → Domain → List ℕ → Bool → List ℕ → Type 0
@@ -141,7 +152,11 @@ AnswersPurl text = AnswersText (IsCanonical text) (IsPurlRefusalLine (IsPurlRefu
 abbrev pub AnswersSame : List ℕ → List ℕ → Bool → List ℕ → Type 0
 AnswersSame a b = AnswersText (IsDecided (λ told. IsComparedAs a b (Ok told))) (IsPurlRefusalLine (λ fault. IsComparedAs a b (Err fault)))
 
--- the answer to a request; `check` is not built yet
+-- `check`: whether the VERS text holds the version of the package URL, or the refusal
+abbrev pub AnswersCheck : List ℕ → List ℕ → Bool → List ℕ → Type 0
+AnswersCheck purl vers = AnswersText (IsDecided (IsCheck purl vers)) (IsCheckRefusalLine (IsCheckRefused purl vers))
+
+-- the answer to a request
 abbrev pub AnswersRequest : Request (List ℕ) → Bool → List ℕ → Type 0
 AnswersRequest (ToVers scheme domain range) = AnswersScheme (scheme_named scheme) domain range
 AnswersRequest (FromVers domain vers) = AnswersBack (domain_named domain) vers
@@ -149,7 +164,7 @@ AnswersRequest (Canon vers) = AnswersCanon vers
 AnswersRequest (Has vers version) = AnswersHas vers version
 AnswersRequest (Purl purl) = AnswersPurl purl
 AnswersRequest (Same first second) = AnswersSame first second
-AnswersRequest (Check purl vers) = IsNotBuilt
+AnswersRequest (Check purl vers) = AnswersCheck purl vers
 
 -- the same where there is one; else the line is no command
 abbrev pub AnswersAsked : Option (Request (List ℕ)) → Bool → List ℕ → Type 0

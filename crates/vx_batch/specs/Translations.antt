@@ -7,8 +7,8 @@ use Rattle.vx_scheme.specs.declared.domain.Domain.{Domain}
 use Rattle.purl_types.specs.Canonical.{AreBytes, IsCanonical, IsComparedAs}
 use Rattle.vx_scheme.specs.Names.{scheme_named}
 use Rattle.vx_translate.specs.Domains.{chosen_domain}
-use Rattle.vx_translate.specs.Names.{IsSameList, IsSameSet, IsHas, IsSameRange}
-use Rattle.vx_batch.specs.Answers.{domain_named, decided_text}
+use Rattle.vx_translate.specs.Names.{IsCheck, IsSameList, IsSameSet, IsHas, IsSameRange}
+use Rattle.vx_batch.specs.Answers.{domain_named, decision_text}
 
 -- The line behind `to-vers`, a scheme, a domain and a range is `ok`, a tab and a printed text, which holds exactly the
 -- versions of the domain that are in the range.
@@ -41,7 +41,7 @@ pub record IsSimplification (text line : List ℕ) : Type 0 where
 -- version, and `no` where it does not.
 pub record IsMembership (text version line : List ℕ) : Type 0 where
   pub held : Bool
-  pub printed : line ≡ codes "ok\t" ++ decided_text held
+  pub printed : line ≡ codes "ok\t" ++ decision_text held
   pub is : IsHas text version held
 
 -- The line behind `purl` and a package URL is `ok`, a tab and the canonical text of what the text spells. Another package
@@ -56,10 +56,17 @@ pub record IsCanonicalPurl (text line : List ℕ) : Type 0 where
 -- and `no` where it does not.
 pub record IsComparison (a b line : List ℕ) : Type 0 where
   pub told : Bool
-  pub printed : line ≡ codes "ok\t" ++ decided_text told
+  pub printed : line ≡ codes "ok\t" ++ decision_text told
   pub is : IsComparedAs a b (Ok told)
 
--- The accepted line of a request says what its command promises. `check` has no accepted line yet.
+-- The line behind `check`, a package URL and a VERS text is `ok`, a tab and `yes` where the list, as it is read, holds
+-- the version that the package URL's candidate spells, and `no` where it does not.
+pub record IsCheckMembership (purl vers line : List ℕ) : Type 0 where
+  pub held : Bool
+  pub printed : line ≡ codes "ok\t" ++ decision_text held
+  pub is : IsCheck purl vers held
+
+-- The accepted line of a request says what its command promises.
 abbrev pub Says : Request (List ℕ) → List ℕ → Type 0
 Says (ToVers scheme domain range) = IsTranslation scheme domain range
 Says (FromVers domain vers) = IsTranslationBack domain vers
@@ -67,4 +74,4 @@ Says (Canon vers) = IsSimplification vers
 Says (Has vers version) = IsMembership vers version
 Says (Purl purl) = IsCanonicalPurl purl
 Says (Same first second) = IsComparison first second
-Says (Check purl vers) = λ line. ⊥
+Says (Check purl vers) = IsCheckMembership purl vers

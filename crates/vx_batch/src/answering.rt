@@ -1,11 +1,12 @@
 ghost use Rattle.std.specs.Prelude.{IfOk, List, ℕ};
-ghost use Rattle.vx_batch.specs.Answers.{AnswersRequest, IsAnswer, IsLineAnswer, IsNotBuilt, IsTooLong};
+ghost use Rattle.vx_batch.specs.Answers.{AnswersRequest, IsAnswer, IsLineAnswer, IsTooLong};
 ghost use Rattle.vx_batch.specs.Requests.{with_texts};
 ghost use Rattle.vx_batch.specs.Rows.{IsRow};
 
+use crate::check_answers::answer_check;
 use crate::fields::Fields;
 use crate::purl_answers::{answer_purl, answer_same};
-use crate::refusing::refused;
+use crate::refusing::refuse;
 use crate::reply::Answer;
 use crate::request::{Request, request_of};
 use crate::row::Row;
@@ -19,15 +20,7 @@ use vx_scheme::NoMemory;
 pub fn too_long(alloc: Global) -> Result<Answer, NoMemory>
     ensures { IfOk result (λ a. IsTooLong a.ok a.text) }
 {
-    let answer = refused(alloc, "no\t1 LineTooLong\t-")?;
-    Ok(answer)
-}
-
-/// The answer to what is not built yet.
-pub fn not_built(alloc: Global) -> Result<Answer, NoMemory>
-    ensures { IfOk result (λ a. IsNotBuilt a.ok a.text) }
-{
-    let answer = refused(alloc, "no\t0 NotBuilt\t-")?;
+    let answer = refuse(alloc, "no\t1 LineTooLong\t-")?;
     Ok(answer)
 }
 
@@ -46,7 +39,7 @@ pub fn answer_to_request(alloc: Global, request: &Request<&str>) -> Result<Answe
         Request::Has { vers, version } => answer_has(alloc, vers, version),
         Request::Purl { purl } => answer_purl(alloc, purl),
         Request::Same { first, second } => answer_same(alloc, first, second),
-        Request::Check { .. } => not_built(alloc),
+        Request::Check { purl, vers } => answer_check(alloc, purl, vers),
     }
 }
 
@@ -57,7 +50,7 @@ pub fn answer_to_row(alloc: Global, row: &Row) -> Result<Answer, NoMemory>
     match request_of(row) {
         Some(request) => answer_to_request(alloc, &request),
         None => {
-            let answer = refused(alloc, "no\t3 BadCommand\t-")?;
+            let answer = refuse(alloc, "no\t3 BadCommand\t-")?;
             Ok(answer)
         }
     }
@@ -81,7 +74,7 @@ pub fn answer_to_line(alloc: Global, line: &[u8]) -> Result<Answer, NoMemory>
     match str::from_utf8(line) {
         Ok(text) => answer_to_row(alloc, &Row::of_line(text)),
         Err(_) => {
-            let answer = refused(alloc, "no\t2 NotText\t-")?;
+            let answer = refuse(alloc, "no\t2 NotText\t-")?;
             Ok(answer)
         }
     }

@@ -41,9 +41,9 @@ fn push_answer(answer: &Answer, text: &mut Vec<u8>) -> Result<bool, NoMemory>
 }
 
 /// Answers the lines of a source, one after the other, in the memory of one line, and writes the answer lines in order,
-/// each with a line feed. The answers to the bytes at hand are written before the next read, and before it ends but for want of memory. The first
-/// fault ends the run. `InputLimit` comes exactly where the source gave as many bytes as the limit, which lies from 1 to
-/// 2^30, and its end had not been seen.
+/// each with a line feed. The answers to the bytes at hand are written before the next read, and before it ends but for
+/// want of memory. The first fault ends the run. `InputLimit` comes exactly where the source gave as many bytes as the
+/// limit, which lies from 1 to 2^30, and its end had not been seen.
 pub fn batch<R: Source, W: Sink>(alloc: Global, limit: u64, source: &mut R, sink: &mut W) -> LoopEnd
     requires some { 0 < limit }
     requires most { limit ≤ MOST_INPUT }

@@ -1,15 +1,18 @@
-ghost use Rattle.std.specs.Prelude.{◌≡◌, List, ℕ, Bool, Option, true};
+ghost use Rattle.std.specs.Prelude.{◌≡◌, ◌==◌, ◌+◌, List, ℕ, Bool, Option, true, length};
 ghost use Rattle.vx_scheme.specs.declared.domain.Domain.{Domain};
 ghost use Rattle.vx_scheme.specs.declared.name.SchemeName.{SchemeName};
 ghost use Rattle.vx_batch.specs.Requests.{IsAsked};
-ghost use Rattle.vx_batch.specs.Answers.{AnswersBack, AnswersCanon, AnswersHas, AnswersPurl, AnswersRange, AnswersSame, IsAnswer, IsLineAnswer};
+ghost use Rattle.vx_batch.specs.Answers.{AnswersBack, AnswersCanon, AnswersCheck, AnswersHas, AnswersPurl, AnswersRange, AnswersSame, IsAnswer, IsLineAnswer};
 ghost use Rattle.vx_batch.specs.Requests.{fields_of};
+ghost use Rattle.vx_lines.specs.Output.{IsOutput, lines};
+ghost use Rattle.vx_batch.specs.Drill.{IsDrill, drill_input, drill_lines};
+ghost use Rattle.vx_batch.specs.declared.drilling.Sums.{Sums};
 ghost use Rattle.vx_batch.specs.Steps.OneLine.{HasOneLine};
 ghost use Rattle.vx_batch.specs.Translations.{Says};
 ghost use Rattle.vx_batch.specs.declared.request.Request.{Request};
 
 use purl_types::{one_canonical_answer, one_comparison};
-use vx_translate::{one_canon, one_from_vers, one_has, one_to_vers};
+use vx_translate::{one_canon, one_check, one_from_vers, one_has, one_to_vers};
 
 /// The fields of a line make one request, or none.
 pub fn one_request()
@@ -35,6 +38,23 @@ pub fn one_answer()
     one_line_of_has();
     one_line_of_purl();
     one_line_of_same();
+    one_line_of_check();
+}
+
+/// A drill is a run of `batch`: the lines of its bytes are the drill's lines, and the sums are those of the output that
+/// `batch` gives to them. So a drill has one answer.
+pub fn drill_is_batch()
+    ensures lines { (n : ℕ) → lines (drill_input n) ≡ drill_lines n }
+    ensures bytes { (n : ℕ) (sums : Sums) (ok : Bool) (out : List ℕ) → IsDrill n sums →
+        IsOutput (IsLineAnswer 65536) (drill_input n) ok out →
+        sums.bytes ≡ length out }
+    ensures ok { (n : ℕ) (sums : Sums) (ok : Bool) (out : List ℕ) → IsDrill n sums →
+        IsOutput (IsLineAnswer 65536) (drill_input n) ok out →
+        ok ≡ (sums.no == 0) }
+    ensures all { (n : ℕ) (sums : Sums) → IsDrill n sums → (sums.lines ≡ n) × (sums.ok + sums.no ≡ n) }
+    ensures one { (n : ℕ) (a b : Sums) → IsDrill n a → IsDrill n b → a ≡ b }
+{
+    one_answer();
 }
 
 fn one_line_to_vers()
@@ -71,4 +91,10 @@ fn one_line_of_same()
     ensures { (first second : List ℕ) → HasOneLine (AnswersSame first second) }
 {
     one_comparison();
+}
+
+fn one_line_of_check()
+    ensures { (purl vers : List ℕ) → HasOneLine (AnswersCheck purl vers) }
+{
+    one_check();
 }

@@ -3,6 +3,9 @@
 
 mod answering;
 mod batching;
+mod check_answers;
+mod drill_lines;
+mod drilling;
 mod fields;
 mod laws;
 mod names;
@@ -15,12 +18,12 @@ mod row;
 mod tests;
 mod vers_answers;
 
-pub use answering::{
-    answer, answer_to_line, answer_to_request, answer_to_row, not_built, too_long,
-};
+pub use answering::{answer, answer_to_line, answer_to_request, answer_to_row, too_long};
 pub use batching::batch;
+pub use drill_lines::{MOST_LINES, drill_line};
+pub use drilling::{Sums, answer_to_drill, drill};
 pub use fields::{Fields, split};
-pub use laws::{accepted_lines_say, one_answer, one_request};
+pub use laws::{accepted_lines_say, drill_is_batch, one_answer, one_request};
 pub use reply::Answer;
 pub use request::{Request, request_of};
 pub use row::Row;

@@ -1,9 +1,9 @@
 ghost use Rattle.std.specs.Prelude.{IfOk};
 ghost use Rattle.vx_batch.specs.Answers.{AnswersPurl, AnswersSame};
 
-use crate::refusing::refused_as_purl;
+use crate::refusing::refuse_purl;
 use crate::reply::Answer;
-use crate::vers_answers::{accepted, decided};
+use crate::vers_answers::{accept, decide};
 use purl_types::{canonical, same};
 use std::alloc::Global;
 use vx_scheme::NoMemory;
@@ -14,11 +14,11 @@ pub fn answer_purl(alloc: Global, text: &str) -> Result<Answer, NoMemory>
 {
     match canonical(alloc, text) {
         Ok(canonical) => {
-            let answer = accepted(canonical)?;
+            let answer = accept(canonical)?;
             Ok(answer)
         }
         Err(fault) => {
-            let answer = refused_as_purl(alloc, fault)?;
+            let answer = refuse_purl(alloc, fault)?;
             Ok(answer)
         }
     }
@@ -30,11 +30,11 @@ pub fn answer_same(alloc: Global, a: &str, b: &str) -> Result<Answer, NoMemory>
 {
     match same(alloc, a, b) {
         Ok(told) => {
-            let answer = decided(alloc, told)?;
+            let answer = decide(alloc, told)?;
             Ok(answer)
         }
         Err(fault) => {
-            let answer = refused_as_purl(alloc, fault)?;
+            let answer = refuse_purl(alloc, fault)?;
             Ok(answer)
         }
     }

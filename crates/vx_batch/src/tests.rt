@@ -1,4 +1,7 @@
-use crate::{Answer, Fields, Request, Row, answer, answer_to_line, batch, request_of, split};
+use crate::{
+    Answer, Fields, Request, Row, Sums, answer, answer_to_drill, answer_to_line, batch, drill,
+    drill_line, request_of, split,
+};
 use std::test::Fail;
 use vx_lines::{LoopEnd, MemorySink, PlainSource};
 use vx_scheme::NoMemory;
@@ -30,7 +33,11 @@ fn fields_and_lines_are_answered_alike(rt: HostRuntime) -> Result<(), Fail> {
         ("purl\tpkg:gem/x", true, "ok\tpkg:gem/x"),
         ("has\tvers:gem/<1.a\t1.a.0.b", true, "ok\tyes"),
         ("same\tpkg:gem/x\tpkg", false, "no\t14 BadPurl\tScheme 0"),
-        ("check\tpkg:npm/x@1\tvers:npm/*", false, "no\t0 NotBuilt\t-"),
+        (
+            "check\tpkg:npm/x@1\tvers:npm/*",
+            false,
+            "no\t12 BadVersion\t-",
+        ),
         ("canon", false, "no\t3 BadCommand\t-"),
         ("purl\tpkg:gem/x\t", false, "no\t3 BadCommand\t-"),
         ("to-vers\tnpm\tall\t1\t", false, "no\t3 BadCommand\t-"),
@@ -77,5 +84,44 @@ fn the_input_is_read_below_its_limit(rt: HostRuntime) -> Result<(), Fail> {
             assert_eq!(rt; sink.bytes(), output.as_bytes());
         }
     }
+    Ok(())
+}
+
+// The lines of a drill from 1 to 8.
+const DRILL: &str = "\
+to-vers\tpypi\tall\t==2.1.*,!=2.1.1
+to-vers\tmaven\tall\t[3.2,3.2.2]
+to-vers\tgem\treleases\t~> 4.3.3
+to-vers\tdeb\tall\t>= 5.4-4, << 6.4
+to-vers\trpm\tall\t>= 6.5-1
+canon\tvers:nuget/<8.0|>=7.6.7|>=7.6
+purl\tpkg:PyPI/Name_1.7@7?z=7&y=1
+to-vers\tnpm\tall\t^2.8.8";
+
+#[test]
+fn the_lines_of_a_drill_are_made_of_their_numbers(rt: HostRuntime) -> Result<(), Fail> {
+    let alloc = rt.alloc();
+    let mut lines = DRILL.lines();
+    for i in 0..8 {
+        let line = drill_line(alloc, i + 1)?;
+        assert_eq!(rt; lines.next(), Some(line.as_str()));
+    }
+    assert!(rt; lines.next().is_none());
+    Ok(())
+}
+
+#[test]
+fn a_drill_sums_its_answers(rt: HostRuntime) -> Result<(), Fail> {
+    let alloc = rt.alloc();
+    let sums = drill(alloc, 8)?;
+    let wanted = Sums {
+        lines: 8,
+        ok: 8,
+        no: 0,
+        bytes: 247,
+    };
+    assert!(rt; sums == wanted);
+    let told = answer_to_drill(alloc, 8);
+    assert!(rt; is_answer(&told, true, "lines 8\nok 8\nno 0\nbytes 247"));
     Ok(())
 }

@@ -1,3 +1,4 @@
 pub mod Jobs
 pub mod Statuses
 pub mod Runs
+pub mod Steps

@@ -1,7 +1,8 @@
 -- What a run ends with, and what its sink gets.
 use Rattle.std.specs.Prelude.{true, ◌≡◌, ◌≢◌, ◌↔◌, ◌⊎◌, ◌<◌, ◌≤◌, ◌^◌, ℕ, List, [], ◌∷◌, ◌++◌, Bool, Option, Result, Ok, Err, if◌then◌else◌}
 use Rattle.std.specs.Io.KnownBytes.{Appends}
-use Rattle.vx_batch.specs.Answers.{IsAnswer, IsLineAnswer, IsNotBuilt, IsTooLong}
+use Rattle.vx_batch.specs.Answers.{IsAnswer, IsLineAnswer, IsTooLong}
+use Rattle.vx_batch.specs.Drill.{IsDrillAnswer}
 use Rattle.vx_batch.specs.Requests.{fields_of}
 use Rattle.vx_batch.specs.Translations.{Says}
 use Rattle.vx_batch.specs.declared.request.Request.{Request}
@@ -46,13 +47,13 @@ IsWordsAnswer words ok text =
     ((65536 < joined_length words) × IsTooLong ok text)
     ⊎ ((joined_length words ≤ 65536) × IsAnswer words ok text)
 
--- known bytes grow by a line of which this holds, and nothing else
+-- known bytes grow by a text of which this holds and a line feed, and nothing else
 pub record AppendsSuch (Is : List ℕ → Type 0) (old new : Option (List ℕ)) : Type 0 where
   pub line : List ℕ
   pub is : Is line
   pub grown : Appends old new (line_of line)
 
--- known bytes grow by a front of a line of which this holds, or by nothing
+-- known bytes grow by a front of these, or by nothing
 pub record AppendsSuchFront (Is : List ℕ → Type 0) (old new : Option (List ℕ)) : Type 0 where
   pub line : List ℕ
   pub is : Is line
@@ -70,8 +71,8 @@ pub record RunsSo {R W : Type 0} (left : R → Option (List ℕ)) (read_faults :
   pub says : (request : Request (List ℕ)) → IsJob words (Line request) → status ≡ named.Done → AppendsSuch (Says request) (held sink) (held sink')
   pub batch : IsJob words Batch → (end : LoopEnd) × (status ≡ status_of end) × Ran (IsLineAnswer 65536) 4096 (2 ^ 30) end (left source) (left source') (held sink) (held sink')
   pub batch_says : (line text : List ℕ) (request : Request (List ℕ)) → IsLineAnswer 65536 line true text → fields_of request ≡ fields_of_line line → Says request text
-  pub drill : (count : ℕ) → IsJob words (Drill count) → (ok : Bool) → status ≡ ended_with ok → AppendsSuch (IsNotBuilt ok) (held sink) (held sink')
-  pub drill_front : (count : ℕ) → IsJob words (Drill count) → (sink' ≡ sink) ⊎ ((ok : Bool) × AppendsSuchFront (IsNotBuilt ok) (held sink) (held sink'))
+  pub drill : (count : ℕ) → IsJob words (Drill count) → (ok : Bool) → status ≡ ended_with ok → AppendsSuch (IsDrillAnswer count ok) (held sink) (held sink')
+  pub drill_front : (count : ℕ) → IsJob words (Drill count) → (sink' ≡ sink) ⊎ ((ok : Bool) × AppendsSuchFront (IsDrillAnswer count ok) (held sink) (held sink'))
   pub drill_unread : (count : ℕ) → IsJob words (Drill count) → source' ≡ source
   pub read_fault : status ≡ named.ReadFault → IsJob words Batch × Rose (read_faults source) (read_faults source')
   pub no_read_fault : status ≢ named.ReadFault → read_faults source' ≡ read_faults source

@@ -3,11 +3,8 @@ ghost use Rattle.vx_batch.specs.Fields.{texts};
 ghost use Rattle.vx_batch.specs.Rows.{IsRow};
 ghost use Rattle.vx_cli.specs.Jobs.{Asks, IsLineCount, seen};
 
-use vx_batch::{Request, Row, request_of};
+use vx_batch::{MOST_LINES, Request, Row, request_of};
 use vx_text::numeral;
-
-/// The most lines that a drill may have.
-pub const MOST_LINES: u128 = 1_000_000;
 
 /// What the words of the program ask.
 #[derive(Debug, Clone, Copy, PartialEq, Eq)]
@@ -16,8 +13,8 @@ pub enum Job<T> {
     Line(Request<T>),
     /// The answers to the lines of the source.
     Batch,
-    /// A load of so many lines, from 1 to 1,000,000.
-    Drill(u128),
+    /// The sums of the answers to so many lines, from 1 to 1,000,000.
+    Drill(u64),
 }
 
 /// What the words ask. `None` comes exactly where they are a usage fault: the first word is missing or no command, or the
@@ -74,12 +71,12 @@ fn job_of_line<'a>(row: &Row<'a>) -> Option<Job<&'a str>>
 }
 
 // How many lines a drill is to have, by its word.
-fn line_count(text: &str) -> Option<u128>
+fn line_count(text: &str) -> Option<u64>
     ensures some { IfSome result (λ count. IsLineCount text.now count) }
     ensures none { IfNone result ((count : ℕ) → ¬ (IsLineCount text.now count)) }
 {
     match numeral(text) {
-        Ok(number) if 0 < number && number <= MOST_LINES => Some(number),
+        Ok(number) if 0 < number && number <= MOST_LINES as u128 => Some(number as u64),
         _ => None,
     }
 }

@@ -1,7 +1,8 @@
 ghost use Rattle.std.specs.Prelude.{◌≡◌, ◌≢◌, ◌↔◌, ◌⊎◌, ◌∷◌, [], ◌^◌, ℕ, Bool, List, true, codes, IfOk};
 ghost use Rattle.vx_lines.specs.Output.{Ran};
 ghost use Rattle.vx_lines.specs.declared.loop_end.LoopEnd.{LoopEnd};
-ghost use Rattle.vx_batch.specs.Answers.{IsLineAnswer, IsNotBuilt};
+ghost use Rattle.vx_batch.specs.Answers.{IsLineAnswer};
+ghost use Rattle.vx_batch.specs.Drill.{IsDrillAnswer};
 ghost use Rattle.vx_batch.specs.Fields.{fields_of_line, texts};
 ghost use Rattle.vx_batch.specs.Requests.{fields_of, with_texts};
 ghost use Rattle.vx_batch.specs.Translations.{Says};
@@ -9,6 +10,7 @@ ghost use Rattle.vx_batch.specs.declared.request.Request.{Request};
 ghost use Rattle.vx_cli.specs.Jobs.{IsJob, IsUsageFault};
 ghost use Rattle.vx_lines.specs.Outside.{FailsAtLast, Rose, Succeeds};
 ghost use Rattle.vx_cli.specs.Runs.{AppendsSuch, AppendsSuchFront, IsWordsAnswer, ended_with, status_of};
+ghost use Rattle.vx_cli.specs.Steps.Puts.{Puts, PutsFront};
 ghost use Rattle.vx_cli.specs.declared.job.Job.TheVariants as job_of;
 ghost use Rattle.vx_cli.specs.declared.status.Status.TheVariants as Status;
 
@@ -17,7 +19,7 @@ use crate::status::Status;
 use crate::words::joined_length;
 use crate::writing::put_line;
 use std::alloc::Global;
-use vx_batch::{Answer, Request, answer_to_request, batch, not_built, too_long};
+use vx_batch::{Answer, Request, answer_to_drill, answer_to_request, batch, too_long};
 use vx_lines::{MOST_BYTES, MOST_INPUT, Sink, Source};
 use vx_scheme::NoMemory;
 
@@ -58,12 +60,13 @@ pub fn run<R: Source, W: Sink>(
     ensures batch_says { (line text : List ℕ) (request : Request (List ℕ)) → IsLineAnswer 65536 line true text
         → fields_of request ≡ fields_of_line line → Says request text }
 
-    // A drill is not built yet.
+    // `drill`: the same for the four lines of the sums of the answers that `batch` gives to the lines 1 to n. The status
+    // says whether each of these answers is an accepted line's.
     ensures drill { (count : ℕ) → IsJob (texts words.now.items) (job_of.Drill count) → (ok : Bool) → result ≡ ended_with ok
-        → AppendsSuch (IsNotBuilt ok) (W.held sink.old) (W.held sink.new) }
+        → AppendsSuch (IsDrillAnswer count ok) (W.held sink.old) (W.held sink.new) }
     ensures drill_front { (count : ℕ) → IsJob (texts words.now.items) (job_of.Drill count)
         → (sink.new ≡ sink.old) ⊎ ((ok : Bool)
-        × AppendsSuchFront (IsNotBuilt ok) (W.held sink.old) (W.held sink.new)) }
+        × AppendsSuchFront (IsDrillAnswer count ok) (W.held sink.old) (W.held sink.new)) }
     ensures drill_unread { (count : ℕ) → IsJob (texts words.now.items) (job_of.Drill count) → source.new ≡ source.old }
 
     // A fault has its cause, and no other status hides one.
@@ -80,36 +83,12 @@ pub fn run<R: Source, W: Sink>(
     ensures limit { result ≡ Status.InputLimit → IsJob (texts words.now.items) job_of.Batch }
 {
     match job_of(words.as_slice()) {
-        Some(Job::Line(request)) => run_line(alloc, words.as_slice(), &request, sink),
+        Some(Job::Line(request)) => {
+            put_answer(words_answer(alloc, words.as_slice(), &request), sink)
+        }
         Some(Job::Batch) => Status::of_end(batch(alloc, MOST_INPUT, source, sink)),
-        Some(Job::Drill(_)) => run_not_built(alloc, sink),
+        Some(Job::Drill(lines)) => put_answer(answer_to_drill(alloc, lines), sink),
         None => Status::Usage,
-    }
-}
-
-// Answers the one line of the words.
-fn run_line<W: Sink>(
-    alloc: Global,
-    words: &[String],
-    request: &Request<&str>,
-    sink: &mut W,
-) -> Status
-    requires { fields_of (with_texts (λ field. field.now) request.now) ≡ texts words.now }
-    ensures line { (ok : Bool) → result ≡ ended_with ok
-        → AppendsSuch (IsWordsAnswer (texts words.now) ok) (W.held sink.old) (W.held sink.new) }
-    ensures front { (sink.new ≡ sink.old) ⊎ ((ok : Bool)
-        × AppendsSuchFront (IsWordsAnswer (texts words.now) ok) (W.held sink.old) (W.held sink.new)) }
-    ensures write_fault { result ≡ Status.WriteFault → Rose (W.faults sink.old) (W.faults sink.new) }
-    ensures no_write_fault { result ≢ Status.WriteFault → W.faults sink.new ≡ W.faults sink.old }
-    ensures write_fails { result ≡ Status.WriteFault → FailsAtLast W.write_gives sink.old sink.new }
-    ensures writes { result ≢ Status.WriteFault → Succeeds W.write_gives sink.old sink.new }
-    ensures no_usage { result ≢ Status.Usage }
-    ensures no_read_fault { result ≢ Status.ReadFault }
-    ensures no_limit { result ≢ Status.InputLimit }
-{
-    match words_answer(alloc, words, request) {
-        Ok(answer) => Status::of(put_line(answer, sink)),
-        Err(NoMemory) => Status::NoMemory,
     }
 }
 
@@ -129,11 +108,10 @@ fn words_answer(
     }
 }
 
-// Answers what is not built yet.
-fn run_not_built<W: Sink>(alloc: Global, sink: &mut W) -> Status
-    ensures line { (ok : Bool) → result ≡ ended_with ok
-        → AppendsSuch (IsNotBuilt ok) (W.held sink.old) (W.held sink.new) }
-    ensures front { (sink.new ≡ sink.old) ⊎ ((ok : Bool) × AppendsSuchFront (IsNotBuilt ok) (W.held sink.old) (W.held sink.new)) }
+// Writes an answer, where there is one.
+fn put_answer<W: Sink>(answer: Result<Answer, NoMemory>, sink: &mut W) -> Status
+    ensures line { (ok : Bool) → result ≡ ended_with ok → Puts answer ok (W.held sink.old) (W.held sink.new) }
+    ensures front { (sink.new ≡ sink.old) ⊎ PutsFront answer (W.held sink.old) (W.held sink.new) }
     ensures write_fault { result ≡ Status.WriteFault → Rose (W.faults sink.old) (W.faults sink.new) }
     ensures no_write_fault { result ≢ Status.WriteFault → W.faults sink.new ≡ W.faults sink.old }
     ensures write_fails { result ≡ Status.WriteFault → FailsAtLast W.write_gives sink.old sink.new }
@@ -142,8 +120,8 @@ fn run_not_built<W: Sink>(alloc: Global, sink: &mut W) -> Status
     ensures no_read_fault { result ≢ Status.ReadFault }
     ensures no_limit { result ≢ Status.InputLimit }
 {
-    match not_built(alloc) {
-        Ok(told) => Status::of(put_line(told, sink)),
+    match answer {
+        Ok(answer) => Status::of(put_line(answer, sink)),
         Err(NoMemory) => Status::NoMemory,
     }
 }

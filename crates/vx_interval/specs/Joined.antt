@@ -1,4 +1,4 @@
--- The joined spans of bounds.
+-- The joined spans of bounds: this project's own.
 use Rattle.std.specs.Prelude.{◌≡◌, ℕ, false, Some, List, [], ◌∷◌, ◌++◌}
 use Rattle.std.specs.List.{AllByRecursion}
 use Rattle.std.specs.declared.cmp.Ordering.{Ordering}

@@ -1,10 +1,10 @@
 //! Laws of the definitions, each as the contract of a function that does nothing.
 
-ghost use Rattle.std.specs.Prelude.{◌≡◌, [], Bool, false, List};
+ghost use Rattle.std.specs.Prelude.{◌≡◌, ◌≤◌, [], Bool, false, List, length};
 ghost use Rattle.vx_spec.specs.Ascending.{IsAscending};
 ghost use Rattle.vx_scheme.specs.declared.span.Cut.{Cut};
 ghost use Rattle.vx_scheme.specs.declared.span.Span.{Span};
-ghost use Rattle.vx_scheme.specs.Cuts.{cut_cmp, bounds_at};
+ghost use Rattle.vx_scheme.specs.Cuts.{cut_cmp, cuts_of, bounds_at};
 ghost use Rattle.vx_line.specs.Line.{IsMerged};
 ghost use Rattle.vx_interval.specs.Places.{AtEachPlace};
 ghost use Rattle.vx_interval.specs.Joined.{IsJoined, IsLine, made_cuts, judged_spans};
@@ -33,6 +33,12 @@ pub fn joined_none<S: Scheme>()
     ensures { (bounds : List (List (List (Span S.Version)))) (spans : List (Span S.Version)) →
         IsJoined S.order bounds spans → AtEachPlace S.order (λ below. bounds_at below bounds ≡ false) →
         spans ≡ [] }
+{}
+
+/// Joined spans have at most as many cuts as were made.
+pub fn joined_is_short<S: Scheme>()
+    ensures { (bounds : List (List (List (Span S.Version)))) (spans : List (Span S.Version)) →
+        IsJoined S.order bounds spans → length (cuts_of spans) ≤ length (made_cuts bounds) }
 {}
 
 /// Two lists of cuts in order have one merged list.

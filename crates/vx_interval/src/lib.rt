@@ -13,6 +13,6 @@ mod set;
 pub use bounds::{Joined, join_bounds};
 pub use compares::{Compares, Counted};
 pub use counter::Steps;
-pub use laws::{joined_none, joined_unique, judged_joined, merged_unique};
+pub use laws::{joined_is_short, joined_none, joined_unique, judged_joined, merged_unique};
 pub use merging::{Cuts, merge};
 pub use set::Set;

@@ -1,9 +1,12 @@
 -- What is found at items, and at one more.
 use Rattle.std.proofs.Common.{◌≡◌, ◌<◌, ◌≤◌, ◌+◌, ◌++◌, ℕ, List, [], ◌∷◌, length, map, take, drop, get_or, refl, sym, ap, ◌∙◌, subst, inl, inr, Option, Some, None, take-append-drop}
 use Rattle.std.specs.Option.{option_or}
+use Rattle.std.specs.List.{slice_get, AllByRecursion}
 use Rattle.std.proofs.lemmas.List.{take_more, take_all, drop_more, map_push, map-append}
+use Rattle.std.proofs.lemmas.Option.{get_or_from_slice_get, slice_get_within}
 use Rattle.vx_spec.specs.Each.{AreEach}
 use Rattle.vx_spec.specs.Firsts.{IsFirst}
+use Rattle.vx_spec.proofs.EachLaws.{each_at}
 use Rattle.vx_spec.proofs.FirstLaws.{first_pass, first_stop}
 use Rattle.vx_scheme.specs.declared.range_fault.EndKind.{EndKind}
 use Rattle.vx_scheme.specs.declared.range_fault.RangeFault.{RangeFault}
@@ -111,13 +114,24 @@ group_stops Syntax Past Endless TooHigh R groups rest items old new Made f fault
 
 -- ---- the items of a loop
 
+-- the item that stands at a place has what all items have
+pub each_got : {X Y : Type 0} (P : Y → Type 0) (f : X → Y) (xs : List X) (i : ℕ) (x : X) → slice_get xs i ≡ Some x → AllByRecursion P (map f xs) → P (f x)
+each_got {X} P f xs i x at all =
+    subst (λ (item : X). P (f item)) (get_or_from_slice_get xs i x x at) (each_at P f xs i x (slice_get_within xs i x at) all)
+
 module _ {X A B : Type 0} (Syntax Past : A → Option ℕ → Type 0) (Endless : A → Option (EndKind × ℕ) → Type 0) (TooHigh : A → Option ℕ → Type 0) (R : A → B → Type 0)
     (f : X → A) (xs : List X) (i : ℕ) where
   -- all items are gone over
   pub all_found : length xs ≤ i → (old new : Findings) (Made : List B → Type 0) → AreFound Syntax Past Endless TooHigh R (map f (take i xs)) old new Made → AreFound Syntax Past Endless TooHigh R (map f xs) old new Made
   all_found more old new Made found = subst (λ (items : List A). AreFound Syntax Past Endless TooHigh R items old new Made) (ap (map f) (take_all i xs more)) found
 
-  module _ (x : X) (is : x ≡ get_or xs i x) (less : i < length xs) where
+  module _ (x : X) (at : slice_get xs i ≡ Some x) where
+    is : x ≡ get_or xs i x
+    is = sym (get_or_from_slice_get xs i x x at)
+
+    less : i < length xs
+    less = slice_get_within xs i x at
+
     taken : map f (take i xs) ++ f x ∷ [] ≡ map f (take (i + 1) xs)
     taken = ap (λ p. map f (take i xs) ++ f p ∷ []) is ∙ sym (ap (map f) (take_more xs i x less) ∙ map_push f (take i xs) (get_or xs i x))
 
@@ -143,9 +157,9 @@ module _ {X A B : Type 0} (Syntax Past : A → Option ℕ → Type 0) (Endless :
 
 -- the same of a loop over groups
 module _ {X A B : Type 0} (Syntax Past : A → Option ℕ → Type 0) (Endless : A → Option (EndKind × ℕ) → Type 0) (TooHigh : A → Option ℕ → Type 0) (R : A → B → Type 0)
-    (f : X → List A) (xs : List X) (i : ℕ) (x : X) (is : x ≡ get_or xs i x) (less : i < length xs) where
+    (f : X → List A) (xs : List X) (i : ℕ) (x : X) (at : slice_get xs i ≡ Some x) where
   pub group_stops_at : (old new : Findings) (Made : List (List B) → Type 0) → AreFound (IsFirst Syntax) (IsFirst Past) (IsFirst Endless) (IsFirst TooHigh) (AreEach R) (map f (take i xs)) old new Made
       → (fault : RangeFault) → IsSyntaxOf Syntax (f x) fault → IsSyntaxOf (IsFirst Syntax) (map f xs) fault
   group_stops_at old new Made found fault h =
-      subst (λ (items : List (List A)). IsSyntaxOf (IsFirst Syntax) items fault) (around (IsFirst Syntax) (IsFirst Past) (IsFirst Endless) (IsFirst TooHigh) (AreEach R) f xs i x is less)
+      subst (λ (items : List (List A)). IsSyntaxOf (IsFirst Syntax) items fault) (around (IsFirst Syntax) (IsFirst Past) (IsFirst Endless) (IsFirst TooHigh) (AreEach R) f xs i x at)
       (group_stops Syntax Past Endless TooHigh R (map f (take i xs)) (map f (drop (i + 1) xs)) (f x) old new Made found fault h)

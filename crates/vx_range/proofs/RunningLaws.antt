@@ -1,24 +1,14 @@
 -- Where the marks of each construct's spans run on, so do those of bounds.
-use Rattle.std.proofs.Common.{◌≡◌, ◌+◌, ◌++◌, ℕ, List, [], ◌∷◌, length, refl, sym, ap, ◌∙◌, subst, arith, append_assoc, append-nil}
+use Rattle.std.proofs.Common.{◌+◌, ◌++◌, ℕ, List, [], ◌∷◌, length, sym, ap, ◌∙◌, subst, arith, append_assoc, append-nil}
 use Rattle.vx_spec.specs.Each.{joined}
 use Rattle.vx_scheme.specs.declared.span.Cut.{Cut}
 use Rattle.vx_scheme.specs.declared.span.Span.{Span}
-use Rattle.vx_scheme.specs.Cuts.{cut_list, cuts_of}
-use Rattle.vx_range.specs.Making.{mark_behind, marks_behind, made_each, alternatives_from, alternatives_of, terms_from, terms_of}
+use Rattle.vx_scheme.specs.Cuts.{cuts_of}
+use Rattle.vx_range.specs.Making.{mark_behind, marks_behind, made_each, alternatives_of, terms_from, terms_of}
 use Rattle.vx_range.specs.Running.{RunOn, EachRunsOn, BoundsRunOn}
-
-joined_append : {X : Type 0} (xss yss : List (List X)) → joined (xss ++ yss) ≡ joined xss ++ joined yss
-joined_append [] yss = refl
-joined_append (xs ∷ xss) yss = ap (λ t. xs ++ t) (joined_append xss yss) ∙ sym (append_assoc xs (joined xss) (joined yss))
+use Rattle.vx_range.specs.Laws.Joins.{cuts_append, same_spans}
 
 module _ {V : Type 0} where
-  cuts_append : (a b : List (Span V)) → cuts_of (a ++ b) ≡ cuts_of a ++ cuts_of b
-  cuts_append [] b = refl
-  cuts_append (span ∷ a) b =
-      ap (λ t. cut_list span.lower ++ (cut_list span.upper ++ t)) (cuts_append a b)
-      ∙ ap (λ t. cut_list span.lower ++ t) (sym (append_assoc (cut_list span.upper) (cuts_of a) (cuts_of b)))
-      ∙ sym (append_assoc (cut_list span.lower) (cut_list span.upper ++ cuts_of a) (cuts_of b))
-
   run_more : (mark : ℕ) (xs ys : List (Cut V)) → RunOn mark xs → RunOn (mark + length xs) ys → RunOn mark (xs ++ ys)
   run_more mark [] ys p q = subst (λ n. RunOn n ys) (omega arith) q
   run_more mark (x ∷ xs) ys p q = (p.0, run_more (mark + 1) xs ys p.1 (subst (λ n. RunOn n ys) (omega arith) q))
@@ -37,15 +27,8 @@ module _ {V C : Type 0} (spans : ℕ → C → List (Span V)) (each : EachRunsOn
   terms_run mark [] = tt
   terms_run mark (group ∷ all) = group_runs mark group (joined (terms_from spans (marks_behind spans mark group) all)) (terms_run (marks_behind spans mark group) all)
 
-  -- alternatives have the spans that terms would have
-  same_spans : (mark : ℕ) (all : List (List C)) → joined (joined (alternatives_from spans mark all)) ≡ joined (terms_from spans mark all)
-  same_spans mark [] = refl
-  same_spans mark (group ∷ all) =
-      joined_append (made_each spans mark group) (joined (alternatives_from spans (marks_behind spans mark group) all))
-      ∙ ap (λ t. joined (made_each spans mark group) ++ t) (same_spans (marks_behind spans mark group) all)
-
   pub alternatives_run_on : (all : List (List C)) → BoundsRunOn (alternatives_of spans all)
-  alternatives_run_on all = subst (λ made. RunOn 0 (cuts_of made)) (sym (same_spans 0 all)) (terms_run 0 all)
+  alternatives_run_on all = subst (λ made. RunOn 0 (cuts_of made)) (sym (same_spans spans 0 all)) (terms_run 0 all)
 
   pub terms_run_on : (all : List (List C)) → BoundsRunOn (terms_of spans all)
   terms_run_on all = subst (λ terms. RunOn 0 (cuts_of (joined terms))) (sym (append-nil (terms_from spans 0 all))) (terms_run 0 all)

@@ -4,6 +4,9 @@ pub mod Making
 pub mod Ranges
 pub mod Spans
 pub mod Running
+pub mod Apart
+pub mod Sizes
 pub mod Lists
+pub mod Few
 pub mod Laws
 pub mod Steps

@@ -1,4 +1,4 @@
-ghost use Rattle.std.specs.Prelude.{◌≡◌, ◌<◌, ◌^◌, None, IfOk, IfErr, OnOk, length, map};
+ghost use Rattle.std.specs.Prelude.{ℕ, List, ◌≡◌, ◌<◌, ◌^◌, None, IfOk, IfErr, OnOk, length, map};
 ghost use Rattle.std.specs.List.{AllByRecursion};
 ghost use Rattle.vx_spec.specs.Firsts.{IsFirst};
 ghost use Rattle.vx_scheme.specs.Native.{Refused};
@@ -8,9 +8,9 @@ ghost use Rattle.vx_range.specs.Making.{groups_from, alternatives_of, terms_of};
 ghost use Rattle.vx_range.specs.Ranges.{MakesBounds, RefusesText};
 ghost use Rattle.vx_range.specs.Steps.Found.{AreGroupsFound, AreGroupsMade, IsClear, IsSyntaxOf};
 
+use crate::few::Groups;
 use crate::findings::Findings;
 use crate::language::Language;
-use crate::piece::Piece;
 use crate::shape::{Shape, read_group};
 use std::alloc::Global;
 use vx_scheme::{Alternative, Bounds, Domain, List, RangeFault, Spans};
@@ -53,8 +53,23 @@ fn read_text<L: Language, S: Shape<L>>(
     ensures err { IfErr result (Refused (RefusesText L.IsCut L.ReadsAs L.IsPast (L.outcome domain) text.now)) }
 {
     let groups = L::cut_text(alloc, text.as_bytes())?;
+    read_cut::<L, S>(alloc, &groups, domain)
+}
+
+/// What these groups, into which a text is cut, become in the domain, or the first refusal of the text.
+fn read_cut<L: Language, S: Shape<L>>(
+    alloc: Global,
+    groups: &Groups<L::Kind>,
+    domain: Domain,
+) -> Result<List<S>, RangeFault>
+    requires { AllByRecursion (AllByRecursion IsInPlace) (map seen_all groups.now) }
+    ensures ok { (text : List ℕ) → L.IsCut text (map seen_all groups.now) → IfOk result
+        (MakesBounds L.IsCut L.ReadsAs L.IsPast (L.outcome domain) (groups_from (L.spans domain) S.together 0) text) }
+    ensures err { (text : List ℕ) → L.IsCut text (map seen_all groups.now) → IfErr result
+        (Refused (RefusesText L.IsCut L.ReadsAs L.IsPast (L.outcome domain) text)) }
+{
     let mut findings = Findings::start();
-    let shapes = read_groups::<L, S>(alloc, &groups, domain, &mut findings)?;
+    let shapes = read_groups::<L, S>(alloc, groups, domain, &mut findings)?;
     findings.end()?;
     Ok(shapes)
 }
@@ -62,7 +77,7 @@ fn read_text<L: Language, S: Shape<L>>(
 /// What groups of pieces become.
 fn read_groups<L: Language, S: Shape<L>>(
     alloc: Global,
-    groups: &[Vec<Piece<L::Kind>>],
+    groups: &Groups<L::Kind>,
     domain: Domain,
     findings: &mut Findings,
 ) -> Result<List<S>, RangeFault>
@@ -73,8 +88,8 @@ fn read_groups<L: Language, S: Shape<L>>(
     ensures err { IfErr result (Refused (IsSyntaxOf (IsFirst (IsNoConstruct L.ReadsAs)) (map seen_all groups.now))) }
 {
     let mut shapes = List::with_room(alloc, groups.len())?;
-    for pieces in groups {
-        let shape = read_group::<L, S>(alloc, pieces, domain, findings)?;
+    for i in 0..groups.len() {
+        let shape = read_group::<L, S>(alloc, groups.get(i), domain, findings)?;
         shapes.push(shape)?;
     }
     Ok(shapes)

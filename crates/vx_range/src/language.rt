@@ -3,6 +3,7 @@ ghost use Rattle.std.specs.List.{AllByRecursion};
 ghost use Rattle.vx_range.specs.Pieces.{Written, seen, seen_all, IsInPlace};
 ghost use Rattle.vx_range.specs.Reading.{AnswersPiece, PieceLaws, CutLaws};
 
+use crate::few::Groups;
 use crate::making::Making;
 use crate::piece::{Piece, PieceReading};
 use std::alloc::{AllocError, Global};
@@ -23,10 +24,10 @@ pub trait Language: Making {
     ghost IsPast: { Written Self.Kind → ℕ → Type 0 };
 
     /// The groups of pieces of a text.
-    fn cut_text(alloc: Global, text: &[u8]) -> Result<Vec<Vec<Piece<'_, Self::Kind>>>, AllocError>
+    fn cut_text(alloc: Global, text: &[u8]) -> Result<Groups<'_, Self::Kind>, AllocError>
         requires { length text.now < 2 ^ 64 }
-        ensures cut { IfOk result (λ groups. IsCut text.now (map seen_all groups.items)) }
-        ensures placed { IfOk result (λ groups. AllByRecursion (AllByRecursion IsInPlace) (map seen_all groups.items)) };
+        ensures cut { IfOk result (λ groups. IsCut text.now (map seen_all groups)) }
+        ensures placed { IfOk result (λ groups. AllByRecursion (AllByRecursion IsInPlace) (map seen_all groups)) };
 
     /// What a piece is.
     fn read_piece(

@@ -3,6 +3,7 @@
 #![tactic(auto)]
 
 mod bounds;
+mod few;
 mod findings;
 mod language;
 mod laws;
@@ -16,8 +17,11 @@ mod spans;
 mod tests;
 
 pub use bounds::{bounds_of_alternatives, bounds_of_terms};
+pub use few::{Few, Groups, Pieces};
 pub use language::Language;
-pub use laws::{marks_run_on, one_answer};
+pub use laws::{
+    bounds_are_short, constructs_are_counted_once, marks_run_on, one_answer, texts_are_short,
+};
 pub use lists::{group_list, pieces_are_those_of_texts, pieces_at};
 pub use making::{Making, Outcome};
 pub use piece::{Piece, PieceReading};

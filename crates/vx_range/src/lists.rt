@@ -5,6 +5,7 @@ ghost use Rattle.vx_text.specs.Pieces.{places};
 ghost use Rattle.vx_range.specs.Pieces.{seen, seen_all, IsInPlace};
 ghost use Rattle.vx_range.specs.Lists.{piece_of, pieces_at, group_of, groups_of, not_empty, IsPlaced};
 
+use crate::few::{Few, Groups, Pieces};
 use crate::piece::Piece;
 use std::alloc::{AllocError, Global};
 use vx_text::{Blanks, cut_bytes, past_run, trimmed};
@@ -37,12 +38,12 @@ pub fn pieces_at(
     text: &[u8],
     at: usize,
     separator: u8,
-) -> Result<Vec<Plain<'_>>, AllocError>
+) -> Result<Pieces<'_, ()>, AllocError>
     requires { at + length text.now < 2 ^ 64 }
     ensures pieces { IfOk result (λ v. seen_all v ≡ pieces_at separator at text.now) }
     ensures placed { IfOk result (λ v. AllByRecursion IsInPlace (seen_all v)) }
 {
-    let mut pieces = Vec::new(alloc);
+    let mut pieces = Few::new(alloc);
     let mut from = at;
     let mut rest = text;
     loop {
@@ -61,17 +62,18 @@ fn group_of<'a>(
     alloc: Global,
     piece: Plain<'a>,
     inner: Option<u8>,
-) -> Result<Vec<Plain<'a>>, AllocError>
+) -> Result<Pieces<'a, ()>, AllocError>
     requires { IsInPlace (seen piece) }
     ensures group { IfOk result (λ v. seen_all v ≡ group_of inner (seen piece.entry)) }
     ensures placed { IfOk result (λ v. AllByRecursion IsInPlace (seen_all v)) }
 {
     match inner {
         Some(separator) => pieces_at(alloc, piece.bytes, piece.at, separator),
-        None => match vec![in alloc; piece] {
-            Ok(group) => Ok(group),
-            Err(error) => Err(AllocError::from(error)),
-        },
+        None => {
+            let mut group = Few::new(alloc);
+            group.push(piece)?;
+            Ok(group)
+        }
     }
 }
 
@@ -81,12 +83,12 @@ pub fn group_list(
     alloc: Global,
     text: &[u8],
     inner: Option<u8>,
-) -> Result<Vec<Vec<Plain<'_>>>, AllocError>
+) -> Result<Groups<'_, ()>, AllocError>
     requires { length text.now < 2 ^ 64 }
-    ensures groups { IfOk result (λ v. map seen_all v.items ≡ groups_of inner text.now) }
-    ensures placed { IfOk result (λ v. AllByRecursion (AllByRecursion IsInPlace) (map seen_all v.items)) }
+    ensures groups { IfOk result (λ v. map seen_all v ≡ groups_of inner text.now) }
+    ensures placed { IfOk result (λ v. AllByRecursion (AllByRecursion IsInPlace) (map seen_all v)) }
 {
-    let mut groups = Vec::new(alloc);
+    let mut groups = Few::new(alloc);
     let mut from = 0;
     let mut rest = text;
     loop {
@@ -103,15 +105,15 @@ pub fn group_list(
 /// Appends the group of a piece, unless the piece is empty.
 fn push_group<'a>(
     alloc: Global,
-    groups: &mut Vec<Vec<Plain<'a>>>,
+    groups: &mut Groups<'a, ()>,
     piece: Plain<'a>,
     inner: Option<u8>,
 ) -> Result<(), AllocError>
     requires piece { IsInPlace (seen piece) }
-    requires placed { AllByRecursion (AllByRecursion IsInPlace) (map seen_all groups.old.items) }
-    ensures groups { OnOk result (map seen_all groups.new.items
-        ≡ map seen_all groups.old.items ++ map (group_of inner) (not_empty (seen piece.entry ∷ []))) }
-    ensures placed { OnOk result (AllByRecursion (AllByRecursion IsInPlace) (map seen_all groups.new.items)) }
+    requires placed { AllByRecursion (AllByRecursion IsInPlace) (map seen_all groups.old) }
+    ensures groups { OnOk result (map seen_all groups.new
+        ≡ map seen_all groups.old ++ map (group_of inner) (not_empty (seen piece.entry ∷ []))) }
+    ensures placed { OnOk result (AllByRecursion (AllByRecursion IsInPlace) (map seen_all groups.new)) }
 {
     if piece.bytes.is_empty() {
         return Ok(());

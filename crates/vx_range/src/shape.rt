@@ -5,6 +5,7 @@ ghost use Rattle.vx_range.specs.Pieces.{seen, IsInPlace};
 ghost use Rattle.vx_range.specs.Reading.{IsNoConstruct};
 ghost use Rattle.vx_range.specs.Steps.Found.{IsPieceFound, IsGroupFound, AddsSpans, IsGroupMade, IsSyntaxOf};
 
+use crate::few::Pieces;
 use crate::findings::{Findings, add_piece};
 use crate::language::Language;
 use crate::piece::Piece;
@@ -82,7 +83,7 @@ impl<L: Language> Shape<L> for Spans<L::Version> {
 /// What a group of pieces becomes.
 pub(crate) fn read_group<L: Language, S: Shape<L>>(
     alloc: Global,
-    pieces: &[Piece<L::Kind>],
+    pieces: &Pieces<L::Kind>,
     domain: Domain,
     findings: &mut Findings,
 ) -> Result<S, RangeFault>
@@ -92,8 +93,8 @@ pub(crate) fn read_group<L: Language, S: Shape<L>>(
     ensures err { IfErr result (Refused (IsSyntaxOf (IsNoConstruct L.ReadsAs) (map seen pieces.now))) }
 {
     let mut shape = S::with_room(alloc, pieces.len())?;
-    for piece in pieces {
-        shape.add(alloc, piece, domain, findings)?;
+    for i in 0..pieces.len() {
+        shape.add(alloc, pieces.get(i), domain, findings)?;
     }
     Ok(shape)
 }

@@ -19,9 +19,6 @@ pub enum BackFault {
     /// No version of the domain is meant.
     #[error("NothingInDomain")]
     NothingInDomain(u64),
-    /// The way back of the language is not built yet.
-    #[error("NotBuilt")]
-    NotBuilt,
     /// No memory was found.
     #[error("NoMemory")]
     NoMemory,

@@ -1,3 +1,4 @@
+pub mod EpochLaws
 pub mod EscapeLaws
 pub mod Joins
 pub mod PastLaws

@@ -1,11 +1,11 @@
 -- Numerals past the limit, and how they are found.
-use Rattle.std.proofs.Common.{◌≡◌, ◌<◌, ◌+◌, ◌^◌, ◌++◌, not, ℕ, zero, suc, Bool, true, false, List, [], ◌∷◌, length, drop, refl, sym, ap, ◌∙◌, subst, inl, inr, Some, None, arith, nat_lt}
+use Rattle.std.proofs.Common.{◌≡◌, ◌<◌, ◌+◌, ◌^◌, ◌++◌, not, ℕ, zero, suc, Bool, true, false, List, [], ◌∷◌, length, drop, refl, sym, ap, ◌∙◌, subst, inl, inr, Some, None, arith, nat_lt, append-nil}
 use Rattle.std.specs.List.{list_all, prefix_len}
-use Rattle.std.specs.Char.{is_ascii_digit}
+use Rattle.std.specs.Char.{is_ascii_alphabetic, is_ascii_digit}
 use Rattle.std.specs.Str.{IsUtf8}
 use Rattle.std.proofs.lemmas.Bool.{cases_Bool, and_parts, ltb-true, lt-ltb}
 use Rattle.std.proofs.lemmas.Bool.Decides.{nat_tests}
-use Rattle.vx_spec.specs.Numerals.{value}
+use Rattle.vx_spec.specs.Numerals.{is_numeral, value}
 use Rattle.vx_spec.specs.Runs.{begins, run, past}
 use Rattle.vx_spec.proofs.RunLaws.{run_step, run_stays, run_past, past_begins, run_all, one_run}
 use Rattle.vx_spec.proofs.TextLaws.{each_by_test, utf8_by_each}
@@ -17,6 +17,17 @@ digit_byte b is = grind (arith, nat_tests)
 
 pub digits_utf8 : (text : List ℕ) → list_all is_ascii_digit text ≡ true → IsUtf8 text
 digits_utf8 text all = utf8_by_each text (each_by_test (λ b. b < 128) is_ascii_digit text digit_byte all)
+
+-- and so are letters
+letter_byte : (b : ℕ) → is_ascii_alphabetic b ≡ true → b < 128
+letter_byte b is = grind (arith, nat_tests)
+
+pub word_utf8 : (text : List ℕ) → list_all is_ascii_alphabetic text ≡ true → IsUtf8 text
+word_utf8 text all = utf8_by_each text (each_by_test (λ b. b < 128) is_ascii_alphabetic text letter_byte all)
+
+-- a numeral is made of digits
+pub numeral_bytes : (text : List ℕ) → is_numeral text ≡ true → list_all is_ascii_digit text ≡ true
+numeral_bytes text is = (and_parts (nat_lt 0 (length text)) (list_all is_ascii_digit text) is).1
 
 -- ---- finding the first
 
@@ -83,3 +94,45 @@ none_front (x ∷ xs) ys none h = (subst (λ r. value r < 2 ^ 128) (run_front (x
 pub none_run : (text : List ℕ) → NonePast text → value (run is_ascii_digit text) < 2 ^ 128
 none_run [] h = omega arith
 none_run (b ∷ text) h = h.0
+
+whole_run : (digits : List ℕ) → list_all is_ascii_digit digits ≡ true → run is_ascii_digit digits ≡ digits
+whole_run digits all = ap (run is_ascii_digit) (sym (append-nil digits)) ∙ (one_run is_ascii_digit digits [] all refl).0
+
+pub numeral_within : (text : List ℕ) → is_numeral text ≡ true → NonePast text → value text < 2 ^ 128
+numeral_within text is none = subst (λ r. value r < 2 ^ 128) (whole_run text (numeral_bytes text is)) (none_run text none)
+
+-- ---- texts put together of parts in which none is past
+
+pub first_none : (at : ℕ) (text : List ℕ) → NonePast text → first_past at text ≡ None
+first_none at [] h = refl
+first_none at (b ∷ text) h = rw (not_past (run is_ascii_digit (b ∷ text)) h.0) (first_none (at + 1) text h.1)
+
+pub no_digit : (b : ℕ) (text : List ℕ) → is_ascii_digit b ≡ false → value (run is_ascii_digit (b ∷ text)) < 2 ^ 128
+no_digit b text other = rw (run_stays is_ascii_digit b text other) (omega arith)
+
+pub none_join : (xs ys : List ℕ) → begins is_ascii_digit ys ≡ false → NonePast xs → NonePast ys → NonePast (xs ++ ys)
+none_join [] ys none p q = q
+none_join (x ∷ xs) ys none p q = (subst (λ r. value r < 2 ^ 128) (sym (run_front (x ∷ xs) ys none)) p.0, none_join xs ys none p.1 q)
+
+-- bytes that are no digits in front
+pub none_others : (test : ℕ → Bool) → ((b : ℕ) → test b ≡ true → is_ascii_digit b ≡ false) → (xs ys : List ℕ) → list_all test xs ≡ true → NonePast ys → NonePast (xs ++ ys)
+none_others test other [] ys all q = q
+none_others test other (x ∷ xs) ys all q =
+    let a = and_parts (test x) (list_all test xs) all in
+    (no_digit x (xs ++ ys) (other x a.0), none_others test other xs ys a.1 q)
+
+letter_no_digit : (b : ℕ) → is_ascii_alphabetic b ≡ true → is_ascii_digit b ≡ false
+letter_no_digit b is = grind (arith, nat_tests)
+
+pub none_word : (word ys : List ℕ) → list_all is_ascii_alphabetic word ≡ true → NonePast ys → NonePast (word ++ ys)
+none_word word ys all q = none_others is_ascii_alphabetic letter_no_digit word ys all q
+
+pub none_digits : (digits : List ℕ) → list_all is_ascii_digit digits ≡ true → value digits < 2 ^ 128 → NonePast digits
+none_digits [] all small = tt
+none_digits (d ∷ digits) all small =
+    let less : value digits < 2 ^ 128 = omega (arith, small) in
+    (subst (λ r. value r < 2 ^ 128) (sym (whole_run (d ∷ digits) all)) small, none_digits digits (and_parts (is_ascii_digit d) (list_all is_ascii_digit digits) all).1 less)
+
+-- digits within the limit in front of what begins with no digit
+pub none_number : (digits ys : List ℕ) → list_all is_ascii_digit digits ≡ true → begins is_ascii_digit ys ≡ false → value digits < 2 ^ 128 → NonePast ys → NonePast (digits ++ ys)
+none_number digits ys all none small q = none_join digits ys none (none_digits digits all small) q

@@ -51,6 +51,19 @@ impl ByteClass for Digits {
     }
 }
 
+/// The ASCII letters.
+pub struct Alphabetic;
+
+impl ByteClass for Alphabetic {
+    ghost use Rattle.std.specs.Char.{is_ascii_alphabetic};
+
+    ghost holds = { is_ascii_alphabetic };
+
+    fn is_one(byte: u8) -> bool {
+        byte.is_ascii_alphabetic()
+    }
+}
+
 fn leading<C: ByteClass>(text: &[u8]) -> usize
     ensures count { result ≡ prefix_len C.holds text.now }
     ensures within { result ≤ length text.now }

@@ -91,23 +91,22 @@ module _ {S V : Type 0} (scheme : Scheme S V) (language : Language S V)
             (λ inside. sym (means v) ∙ said.0 inside, λ held. said.1 (means v ∙ held));
       }
 
--- What holds where a `NoNative` or `NotBuilt` comes holds where the spans have no text.
+-- What holds where a `NoNative` comes holds where the spans have no text.
 module _ {S V : Type 0} (scheme : Scheme S V) (language : Language S V) (domain : Domain) (text : List ℕ) where
   abbrev None : Refusal → Type 0
   None refusal = HasNoText scheme language domain text refusal
 
-  no_text_of : (P : Refusal → Type 0) → ((k : BackKind) (n : ℕ) → None (refusal_of.NoNative k n) → P (refusal_of.NoNative k n)) → (None refusal_of.NotBuilt → P refusal_of.NotBuilt)
+  no_text_of : (P : Refusal → Type 0) → ((k : BackKind) (n : ℕ) → None (refusal_of.NoNative k n) → P (refusal_of.NoNative k n))
       → (list : List (Constraint V)) → SpellsVers scheme text list → (fault : BackFault) → language.back domain (spans_of_list (simplified kind list)) ≡ Err fault
       → refusal_of_back fault ≢ refusal_of.NoMemory → P (refusal_of_back fault)
-  no_text_of P gives other list read (fault_of.NotOneInterval k) e some = gives back_kind.NotOneInterval k (record { list = list; read = read; fault = fault_of.NotOneInterval k; refused = e; called = refl })
-  no_text_of P gives other list read (fault_of.PointHole k) e some = gives back_kind.PointHole k (record { list = list; read = read; fault = fault_of.PointHole k; refused = e; called = refl })
-  no_text_of P gives other list read (fault_of.LocalBound k) e some = gives back_kind.LocalBound k (record { list = list; read = read; fault = fault_of.LocalBound k; refused = e; called = refl })
-  no_text_of P gives other list read (fault_of.LocalsApart k) e some = gives back_kind.LocalsApart k (record { list = list; read = read; fault = fault_of.LocalsApart k; refused = e; called = refl })
-  no_text_of P gives other list read (fault_of.NothingInDomain k) e some = gives back_kind.NothingInDomain k (record { list = list; read = read; fault = fault_of.NothingInDomain k; refused = e; called = refl })
-  no_text_of P gives other list read fault_of.NotBuilt e some = other (record { list = list; read = read; fault = fault_of.NotBuilt; refused = e; called = refl })
-  no_text_of P gives other list read fault_of.NoMemory e some = absurd (some refl)
+  no_text_of P gives list read (fault_of.NotOneInterval k) e some = gives back_kind.NotOneInterval k (record { list = list; read = read; fault = fault_of.NotOneInterval k; refused = e; called = refl })
+  no_text_of P gives list read (fault_of.PointHole k) e some = gives back_kind.PointHole k (record { list = list; read = read; fault = fault_of.PointHole k; refused = e; called = refl })
+  no_text_of P gives list read (fault_of.LocalBound k) e some = gives back_kind.LocalBound k (record { list = list; read = read; fault = fault_of.LocalBound k; refused = e; called = refl })
+  no_text_of P gives list read (fault_of.LocalsApart k) e some = gives back_kind.LocalsApart k (record { list = list; read = read; fault = fault_of.LocalsApart k; refused = e; called = refl })
+  no_text_of P gives list read (fault_of.NothingInDomain k) e some = gives back_kind.NothingInDomain k (record { list = list; read = read; fault = fault_of.NothingInDomain k; refused = e; called = refl })
+  no_text_of P gives list read fault_of.NoMemory e some = absurd (some refl)
 
-  pub no_text : (P : Refusal → Type 0) → ((k : BackKind) (n : ℕ) → None (refusal_of.NoNative k n) → P (refusal_of.NoNative k n)) → (None refusal_of.NotBuilt → P refusal_of.NotBuilt)
+  pub no_text : (P : Refusal → Type 0) → ((k : BackKind) (n : ℕ) → None (refusal_of.NoNative k n) → P (refusal_of.NoNative k n))
       → (refusal : Refusal) → refusal ≢ refusal_of.NoMemory → None refusal → P refusal
-  no_text P gives other refusal some none =
-      subst P (sym none.called) (no_text_of P gives other none.list none.read none.fault none.refused (subst (λ (r : Refusal). r ≢ refusal_of.NoMemory) none.called some))
+  no_text P gives refusal some none =
+      subst P (sym none.called) (no_text_of P gives none.list none.read none.fault none.refused (subst (λ (r : Refusal). r ≢ refusal_of.NoMemory) none.called some))

@@ -1,10 +1,16 @@
 pub mod BackwardLaws
 pub mod CanonicalAgain
+pub mod CheckLaws
 pub mod ForwardLaws
+pub mod NecessaryLaws
+pub mod NoListLaws
 pub mod OneBackward
 pub mod OneCanonical
+pub mod OneCheck
 pub mod OneForward
 pub mod OneHaving
 pub mod OneList
 pub mod OneScheme
+pub mod ShortLaws
+pub mod ShortNames
 pub mod VersLaws

@@ -39,7 +39,6 @@ module _ {S V : Type 0} (scheme : Scheme S V) (language : Language S V) (total :
   cause refused.DomainNotOffered some r = inl (refl, r)
   cause (refused.BadVers part k) some r = inr (r.0, inl r.1)
   cause (refused.NoNative kind k) some r = inr (r.0, inr r.1)
-  cause refused.NotBuilt some r = inr (r.0, inr r.1)
   cause (refused.Syntax at) some r = absurd r
   cause (refused.Numeral at) some r = absurd r
   cause (refused.NoEndpoint kind at) some r = absurd r

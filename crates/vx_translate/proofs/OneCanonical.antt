@@ -26,7 +26,6 @@ module _ {S V : Type 0} (scheme : Scheme S V) (total : IsTotalOrder scheme.order
   bad refused.Empty some r = absurd r
   bad refused.BadVersion some r = absurd r
   bad (refused.NoNative kind k) some r = absurd r
-  bad refused.NotBuilt some r = absurd r
   bad refused.NoMemory some r = absurd (some refl)
 
   pub one_refusal : (a b : Refusal) → a ≢ refused.NoMemory → b ≢ refused.NoMemory → RefusesCanonical scheme text a → RefusesCanonical scheme text b → a ≡ b

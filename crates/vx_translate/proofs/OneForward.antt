@@ -51,7 +51,6 @@ module _ {S V : Type 0} (scheme : Scheme S V) (language : Language S V) (total :
   cause (refused.BadVers part k) some r = absurd r
   cause refused.BadVersion some r = absurd r
   cause (refused.NoNative kind k) some r = absurd r
-  cause refused.NotBuilt some r = absurd r
   cause refused.NoMemory some r = absurd (some refl)
 
   one_cause : (a b : Refusal) → HasCause a → HasCause b → a ≡ b

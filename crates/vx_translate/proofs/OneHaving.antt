@@ -30,7 +30,6 @@ module _ {S V : Type 0} (scheme : Scheme S V) (total : IsTotalOrder scheme.order
   cause (refused.NoEndpoint kind at) some r = absurd r
   cause refused.Empty some r = absurd r
   cause (refused.NoNative kind k) some r = absurd r
-  cause refused.NotBuilt some r = absurd r
   cause refused.NoMemory some r = absurd (some refl)
 
   one_cause : (a b : Refusal) → HasCause a → HasCause b → a ≡ b

@@ -42,6 +42,5 @@ abbrev pub RefusesBack : {S V : Type 0} → Scheme S V → Language S V → Doma
 RefusesBack scheme language domain text refusal_of.DomainNotOffered = ¬ (language.Offers domain)
 RefusesBack scheme language domain text (refusal_of.BadVers part k) = language.Offers domain × IsBadVers scheme text (refusal_of.BadVers part k)
 RefusesBack scheme language domain text (refusal_of.NoNative kind k) = language.Offers domain × HasNoText scheme language domain text (refusal_of.NoNative kind k)
-RefusesBack scheme language domain text refusal_of.NotBuilt = language.Offers domain × HasNoText scheme language domain text refusal_of.NotBuilt
 RefusesBack scheme language domain text refusal_of.NoMemory = Unit {0}
 RefusesBack scheme language domain text _ = ⊥

@@ -1,10 +1,13 @@
 pub mod Backward
 pub mod Canonical
+pub mod Checking
 pub mod Domains
 pub mod Forward
 pub mod Having
 pub mod Names
+pub mod Necessary
 pub mod Refusals
+pub mod Sizes
 pub mod Table
 pub mod VersTexts
 pub mod Steps

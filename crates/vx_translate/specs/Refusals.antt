@@ -5,6 +5,10 @@ use Rattle.vx_scheme.specs.declared.back_fault.BackFault.{BackFault}
 use Rattle.vx_scheme.specs.declared.back_fault.BackFault.TheVariants as back_fault_of
 use Rattle.vx_vers.specs.declared.fault.VersFault.{VersFault}
 use Rattle.vx_vers.specs.declared.fault.VersFault.TheVariants as vers_fault_of
+use Rattle.purl_core.specs.declared.fault.PurlFault.{PurlFault}
+use Rattle.purl_core.specs.declared.fault.PurlFault.TheVariants as purl_fault_of
+use Rattle.vx_translate.specs.declared.check_refusal.CheckRefusal.{CheckRefusal}
+use Rattle.vx_translate.specs.declared.check_refusal.CheckRefusal.TheVariants as check_refusal
 use Rattle.vx_translate.specs.declared.refusal.BackKind.TheVariants as kind
 use Rattle.vx_translate.specs.declared.refusal.VersPart.TheVariants as part
 use Rattle.vx_translate.specs.declared.refusal.Refusal.{Refusal}
@@ -34,5 +38,14 @@ refusal_of_back (back_fault_of.PointHole k) = refusal.NoNative kind.PointHole k
 refusal_of_back (back_fault_of.LocalBound k) = refusal.NoNative kind.LocalBound k
 refusal_of_back (back_fault_of.LocalsApart k) = refusal.NoNative kind.LocalsApart k
 refusal_of_back (back_fault_of.NothingInDomain k) = refusal.NoNative kind.NothingInDomain k
-refusal_of_back back_fault_of.NotBuilt = refusal.NotBuilt
 refusal_of_back back_fault_of.NoMemory = refusal.NoMemory
+
+-- a refusal of `has`, where a check is refused for it
+abbrev pub check_refusal_of : Refusal → CheckRefusal
+check_refusal_of refusal.NoMemory = check_refusal.NoMemory
+check_refusal_of other = check_refusal.Vers other
+
+-- a fault of a package URL
+abbrev pub check_refusal_of_purl : PurlFault → CheckRefusal
+check_refusal_of_purl purl_fault_of.NoMemory = check_refusal.NoMemory
+check_refusal_of_purl other = check_refusal.BadPurl other

@@ -30,6 +30,9 @@ OfHead Fact text = (name : SchemeName) × HeadIs text name × Fact name
 
 -- When each refusal comes: that of the head where it names no scheme, and else by the scheme that it names. Want of
 -- memory is free.
+abbrev pub ComesByHead : {F : Type 0} → F → F → (SchemeName → F → Type 0) → List ℕ → F → Type 0
+ComesByHead no_memory headless Refused text refusal =
+    (refusal ≢ no_memory) → ((NoHead text × (refusal ≡ headless)) ⊎ OfHead (λ name. Refused name refusal) text)
+
 abbrev pub RefusedByHead : (SchemeName → Refusal → Type 0) → List ℕ → Refusal → Type 0
-RefusedByHead Refused text refusal =
-    (refusal ≢ refusal_of.NoMemory) → ((NoHead text × (refusal ≡ refusal_of.BadVers Head 0)) ⊎ OfHead (λ name. Refused name refusal) text)
+RefusedByHead = ComesByHead refusal_of.NoMemory (refusal_of.BadVers Head 0)

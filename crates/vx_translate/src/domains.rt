@@ -7,7 +7,7 @@ use vx_scheme::{Domain, SchemeName};
 /// The domain that is meant where a line names none: the usual one of the scheme's range language. It takes no memory.
 pub fn default_domain(name: SchemeName) -> Domain
     ensures usual { result ≡ usual_of name }
-    ensures language { of_scheme (λ row. row.language.usual) result name ≡ result }
+    ensures language { of_scheme (λ row. row.language.usual) name ≡ result }
 {
     match name {
         SchemeName::Npm

@@ -1,6 +1,7 @@
 ghost use Rattle.std.specs.Prelude.{◌≡◌, ◌≢◌, IfOk, IfErr};
 ghost use Rattle.vx_translate.specs.declared.refusal.Refusal.TheVariants as refusal_of;
 ghost use Rattle.vx_translate.specs.Forward.{Translates, HoldsSame, HoldsNothing, RefusesForward};
+ghost use Rattle.vx_translate.specs.Sizes.{HasNoMore};
 
 use crate::refusal::Refusal;
 use std::alloc::Global;
@@ -19,6 +20,7 @@ pub(crate) fn translate<N: Native>(
     ensures members { IfOk result (HoldsSame N.Scheme N.Native.own domain text.now) }
     ensures err { IfErr result (λ refusal. refusal ≢ refusal_of.NoMemory → RefusesForward N.Scheme N.Native.own domain text.now refusal) }
     ensures empty { result ≡ Err Refusal.Empty → HoldsNothing N.Scheme N.Native.own domain text.now }
+    ensures short { IfOk result (HasNoMore N.Scheme N.Native.own domain text.now) }
 {
     if !N::offers(domain) {
         return Err(Refusal::DomainNotOffered);

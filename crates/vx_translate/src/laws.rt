@@ -8,10 +8,13 @@ ghost use Rattle.vx_scheme.specs.declared.domain.Domain.{Domain};
 ghost use Rattle.vx_vers.specs.Again.{IsWritable};
 ghost use Rattle.vx_translate.specs.Backward.{TranslatesBack, RefusesBack};
 ghost use Rattle.vx_translate.specs.Canonical.{PrintsSimplified, MeansSame, RefusesCanonical};
+ghost use Rattle.vx_translate.specs.Checking.{TellsCheck, RefusesCheck};
 ghost use Rattle.vx_translate.specs.Forward.{Translates, RefusesForward};
 ghost use Rattle.vx_translate.specs.Having.{TellsMembership, RefusesMembership};
-ghost use Rattle.vx_translate.specs.Names.{IsTranslated, IsRefused, IsFromVers, IsFromVersRefused, IsCanon, IsCanonRefused, IsHas, IsHasRefused};
-ghost use Rattle.vx_translate.specs.Steps.Rows.{IsRowBack, IsRowBackRefused, IsRowCanon, IsRowCanonRefused, IsRowHas, IsRowHasRefused};
+ghost use Rattle.vx_translate.specs.Names.{IsTranslated, IsRefused, IsFromVers, IsFromVersRefused, IsCanon, IsCanonRefused, IsHas, IsHasRefused, IsCheck, IsCheckRefused};
+ghost use Rattle.vx_translate.specs.Steps.Rows.{IsRowBack, IsRowBackRefused, IsRowCanon, IsRowCanonRefused, IsRowCheck, IsRowCheckRefused, IsRowHas, IsRowHasRefused};
+ghost use Rattle.vx_translate.specs.declared.check_refusal.CheckRefusal.{CheckRefusal};
+ghost use Rattle.vx_translate.specs.declared.check_refusal.CheckRefusal.TheVariants as check_refusal_of;
 ghost use Rattle.vx_translate.specs.declared.refusal.Refusal.{Refusal};
 ghost use Rattle.vx_translate.specs.declared.refusal.Refusal.TheVariants as refusal_of;
 
@@ -59,6 +62,16 @@ pub fn one_membership<S: Scheme>()
         TellsMembership S.Scheme.own vers version decision → ¬ (RefusesMembership S.Scheme.own vers version refusal) }
 {}
 
+/// Whether a VERS text holds the version of a package URL has one answer or one refusal, and never both.
+pub fn one_checking<S: Scheme>()
+    ensures decision { (purl vers : List ℕ) (a b : Bool) →
+        TellsCheck S.Scheme.own purl vers a → TellsCheck S.Scheme.own purl vers b → a ≡ b }
+    ensures refusal { (purl vers : List ℕ) (a b : CheckRefusal) → a ≢ check_refusal_of.NoMemory → b ≢ check_refusal_of.NoMemory →
+        RefusesCheck S.Scheme.own purl vers a → RefusesCheck S.Scheme.own purl vers b → a ≡ b }
+    ensures apart { (purl vers : List ℕ) (decision : Bool) (refusal : CheckRefusal) → refusal ≢ check_refusal_of.NoMemory →
+        TellsCheck S.Scheme.own purl vers decision → ¬ (RefusesCheck S.Scheme.own purl vers refusal) }
+{}
+
 /// Where each version that a text spells within the limits can be written, the canonical text of a canonical text is that
 /// text, and means the same.
 pub fn canonical_again<S: Scheme>()
@@ -77,7 +90,7 @@ fn one_to_vers_of(name: SchemeName)
     ensures apart { (domain : Domain) (range text : List ℕ) (refusal : Refusal) → refusal ≢ refusal_of.NoMemory →
         IsTranslated name domain range text → ¬ (IsRefused name domain range refusal) }
 {
-    of_scheme!(name, one_translation(), ())
+    of_scheme!(name, one_translation())
 }
 
 fn one_from_vers_of(name: SchemeName)
@@ -87,7 +100,7 @@ fn one_from_vers_of(name: SchemeName)
     ensures apart { (domain : Domain) (vers text : List ℕ) (refusal : Refusal) → refusal ≢ refusal_of.NoMemory →
         IsRowBack domain vers text name → ¬ (IsRowBackRefused domain vers refusal name) }
 {
-    of_scheme!(name, one_translation_back(), ())
+    of_scheme!(name, one_translation_back())
 }
 
 fn one_canon_of(name: SchemeName)
@@ -97,7 +110,7 @@ fn one_canon_of(name: SchemeName)
     ensures apart { (vers text : List ℕ) (refusal : Refusal) → refusal ≢ refusal_of.NoMemory →
         IsRowCanon vers text name → ¬ (IsRowCanonRefused vers refusal name) }
 {
-    of_scheme!(name, one_canonical(), ())
+    of_scheme!(name, one_canonical())
 }
 
 fn one_has_of(name: SchemeName)
@@ -107,10 +120,20 @@ fn one_has_of(name: SchemeName)
     ensures apart { (vers version : List ℕ) (decision : Bool) (refusal : Refusal) → refusal ≢ refusal_of.NoMemory →
         IsRowHas vers version decision name → ¬ (IsRowHasRefused vers version refusal name) }
 {
-    of_scheme!(name, one_membership(), ())
+    of_scheme!(name, one_membership())
 }
 
-// The law of the row of each scheme, also of those that are not built.
+fn one_check_of(name: SchemeName)
+    ensures decision { (purl vers : List ℕ) (a b : Bool) → IsRowCheck purl vers a name → IsRowCheck purl vers b name → a ≡ b }
+    ensures refusal { (purl vers : List ℕ) (a b : CheckRefusal) → a ≢ check_refusal_of.NoMemory → b ≢ check_refusal_of.NoMemory →
+        IsRowCheckRefused purl vers a name → IsRowCheckRefused purl vers b name → a ≡ b }
+    ensures apart { (purl vers : List ℕ) (decision : Bool) (refusal : CheckRefusal) → refusal ≢ check_refusal_of.NoMemory →
+        IsRowCheck purl vers decision name → ¬ (IsRowCheckRefused purl vers refusal name) }
+{
+    of_scheme!(name, one_checking())
+}
+
+// The law of the row of each scheme.
 macro_rules! of_each_scheme {
     ($law:ident) => {
         $law(SchemeName::Npm);
@@ -168,4 +191,15 @@ pub fn one_has()
         IsHas vers version decision → ¬ (IsHasRefused vers version refusal) }
 {
     of_each_scheme!(one_has_of);
+}
+
+/// Whether a VERS text holds the version of a package URL has one answer or one refusal, and never both.
+pub fn one_check()
+    ensures decision { (purl vers : List ℕ) (a b : Bool) → IsCheck purl vers a → IsCheck purl vers b → a ≡ b }
+    ensures refusal { (purl vers : List ℕ) (a b : CheckRefusal) → a ≢ check_refusal_of.NoMemory → b ≢ check_refusal_of.NoMemory →
+        IsCheckRefused purl vers a → IsCheckRefused purl vers b → a ≡ b }
+    ensures apart { (purl vers : List ℕ) (decision : Bool) (refusal : CheckRefusal) → refusal ≢ check_refusal_of.NoMemory →
+        IsCheck purl vers decision → ¬ (IsCheckRefused purl vers refusal) }
+{
+    of_each_scheme!(one_check_of);
 }

@@ -53,8 +53,6 @@ pub enum Refusal {
     BadVersion,
     /// The spans have no native text.
     NoNative(BackKind, u64),
-    /// The scheme is not built yet.
-    NotBuilt,
     /// No memory was found.
     NoMemory,
 }
@@ -118,7 +116,6 @@ impl From<BackFault> for Refusal {
             BackFault::LocalBound(k) => Refusal::NoNative(BackKind::LocalBound, k),
             BackFault::LocalsApart(k) => Refusal::NoNative(BackKind::LocalsApart, k),
             BackFault::NothingInDomain(k) => Refusal::NoNative(BackKind::NothingInDomain, k),
-            BackFault::NotBuilt => Refusal::NotBuilt,
             BackFault::NoMemory => Refusal::NoMemory,
         }
     }

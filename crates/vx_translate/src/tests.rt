@@ -1,8 +1,12 @@
 ghost use Rattle.std.specs.Prelude.{◌≡◌, ◌<◌};
 
-use crate::{Refusal, VersPart, canon, default_domain, from_vers, has, to_vers};
+use crate::{
+    BackKind, CheckRefusal, Refusal, VersPart, canon, check, default_domain, from_vers, has,
+    to_vers,
+};
 use npm_range::NpmRange;
 use npm_scheme::NpmVersion;
+use purl_core::PurlFault;
 use std::alloc::Global;
 use std::marker::Brand;
 use std::sync::ledger::{Blank, Ledger};
@@ -127,7 +131,7 @@ fn ranges_are_translated_by_the_name(rt: HostRuntime) {
             "1 foo",
             Refusal::Syntax(2),
         ),
-        (SchemeName::Maven, Domain::All, "1", Refusal::NotBuilt),
+        (SchemeName::Maven, Domain::All, "[1", Refusal::Syntax(0)),
     ] {
         match to_vers(alloc, name, domain, text) {
             Ok(_) => assert!(rt; false),
@@ -233,9 +237,45 @@ fn lists_hold_versions(rt: HostRuntime) {
             "1.2",
             Err(Refusal::BadVers(VersPart::Head, 0)),
         ),
-        ("vers:maven/", "", Err(Refusal::NotBuilt)),
+        ("vers:maven/=1.0|<2", "1", Ok(true)),
     ] {
         assert_eq!(rt; has(alloc, text, version), answer);
+    }
+}
+
+#[test]
+fn lists_hold_the_versions_of_package_urls(rt: HostRuntime) {
+    let alloc = rt.alloc();
+    for (purl, vers, answer) in [
+        (
+            "pkg:rpm/fedora/curl@7.50.3-1?epoch=1",
+            "vers:rpm/>=1:7.0|<1:8.0",
+            Ok(true),
+        ),
+        (
+            "pkg:rpm/fedora/curl@7.50.3-1",
+            "vers:rpm/>=1:7.0",
+            Ok(false),
+        ),
+        (
+            "pkg",
+            "vers:npm/",
+            Err(CheckRefusal::Vers(Refusal::BadVers(VersPart::Constraint, 1))),
+        ),
+        (
+            "pkg",
+            "vers:npm/*",
+            Err(CheckRefusal::BadPurl(PurlFault::Scheme)),
+        ),
+        ("pkg:golang/x", "vers:npm/*", Err(CheckRefusal::NoVersion)),
+        ("pkg:golang/x@1", "vers:npm/*", Err(CheckRefusal::NoScheme)),
+        (
+            "pkg:npm/x@1",
+            "vers:npm/*",
+            Err(CheckRefusal::Vers(Refusal::BadVersion)),
+        ),
+    ] {
+        assert_eq!(rt; check(alloc, purl, vers), answer);
     }
 }
 
@@ -249,7 +289,8 @@ fn lists_are_simplified(rt: HostRuntime) -> Result<(), Fail> {
         refused.err(),
         Some(Refusal::BadVers(VersPart::StarNotAlone, 0))
     );
-    assert_eq!(rt; canon(alloc, "vers:nuget/*").err(), Some(Refusal::NotBuilt));
+    let text = canon(alloc, "vers:nuget/>=1.0|>=2")?;
+    assert_eq!(rt; text.as_str(), "vers:nuget/>=1.0.0");
     Ok(())
 }
 
@@ -260,7 +301,10 @@ fn lists_that_are_not_read_are_not_translated(rt: HostRuntime) -> Result<(), Fai
         ("npm/*", Refusal::BadVers(VersPart::Head, 0)),
         ("vers:npm/1.0", Refusal::BadVers(VersPart::Version, 1)),
         ("vers:npm/>", Refusal::BadVers(VersPart::Constraint, 1)),
-        ("vers:pypi/1.0", Refusal::NotBuilt),
+        (
+            "vers:pypi/>=1.0+a",
+            Refusal::NoNative(BackKind::LocalBound, 1),
+        ),
     ] {
         let made = from_vers(alloc, Some(Domain::Releases), text);
         assert_eq!(rt; made.err(), Some(refusal));

@@ -1,4 +1,5 @@
 pub mod AgainLaws
+pub mod AlikeLaws
 pub mod HeadLaws
 pub mod OneList
 pub mod PartLaws

@@ -3,6 +3,7 @@
 ghost use Rattle.std.specs.Prelude.{◌≡◌, true, List};
 ghost use Rattle.vx_vers.specs.declared.constraints.Constraint.{Constraint};
 ghost use Rattle.vx_vers.specs.Again.{IsSameList};
+ghost use Rattle.vx_vers.specs.Alike.{EachAlike};
 ghost use Rattle.vx_vers.specs.Meaning.{kind, meaning};
 ghost use Rattle.vx_vers.specs.Sorted.{IsSorted};
 ghost use Rattle.vx_vers.specs.Validity.{is_valid};
@@ -20,4 +21,10 @@ pub fn walk_means<S: Scheme>()
 pub fn same_lists_mean<S: Scheme>()
     ensures { (a b : List (Constraint S.Version)) (v : S.Version) → IsSameList S.order a b →
         meaning S.order v a ≡ meaning S.order v b }
+{}
+
+/// A list means the same at two versions with which each of its versions compares alike.
+pub fn alike_mean_alike<S: Scheme>()
+    ensures { (list : List (Constraint S.Version)) (v w : S.Version) → EachAlike S.order list v w →
+        meaning S.order v list ≡ meaning S.order w list }
 {}

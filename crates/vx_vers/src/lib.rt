@@ -15,7 +15,7 @@ mod writing;
 
 pub use constraints::{Comparator, Constraint, Constraints};
 pub use fault::VersFault;
-pub use laws::{same_lists_mean, walk_means};
+pub use laws::{alike_mean_alike, same_lists_mean, walk_means};
 pub use naming::head;
 pub use reading::{one_list, one_refusal, read, read_again, refused_is_unspelled};
 pub use writing::write;

@@ -1,22 +1,16 @@
 -- What texts spell, and which: exactly the versions. The normal text is the text as it is written.
-use Rattle.std.proofs.Common.{◌≡◌, ◌≢◌, ℕ, true, List, [], ◌∷◌, ◌++◌, Option, Some, None, refl, sym, ap, ◌∙◌}
+use Rattle.std.proofs.Common.{◌≡◌, ◌≢◌, ℕ, List, [], refl, sym, ap, ◌∙◌}
 use Rattle.std.specs.Cmp.{tied_itself}
-use Rattle.vx_spec.specs.Marks.{in_front, marked}
 use Rattle.vx_scheme.specs.Scheme.{TextLaws}
+use Rattle.vx_text.proofs.EpochLaws.{whole_some}
 use Rattle.deb_scheme.specs.Version.{Fields, IsWithin}
-use Rattle.deb_scheme.specs.Spelling.{Spells, IsVersion, colon, hyphen, is_made_of, is_upstream_byte, version_of}
+use Rattle.deb_scheme.specs.Spelling.{Spells, IsVersion, version_of}
 use Rattle.deb_scheme.specs.Writing.{normal}
 use Rattle.deb_scheme.specs.Order.{order_of, order_total}
-use Rattle.deb_scheme.specs.Laws.Unique.{one_reading}
-
-not_blank : (epoch : Option (List ℕ)) (upstream rest : List ℕ) → is_made_of is_upstream_byte upstream ≡ true → in_front colon epoch (upstream ++ rest) ≢ []
-not_blank None [] rest is e = cc is
-not_blank None (b ∷ upstream) rest is e = cc e
-not_blank (Some []) upstream rest is e = cc e
-not_blank (Some (b ∷ part)) upstream rest is e = cc e
+use Rattle.deb_scheme.specs.Laws.Unique.{one_reading, upstream_some}
 
 not_empty : (v : Fields) → IsVersion v → v.text ≢ []
-not_empty v is e = not_blank is.parts.epoch is.parts.upstream (marked hyphen is.parts.revision) is.form.upstream (sym is.joined ∙ e)
+not_empty v is e = whole_some is.parts (upstream_some is.parts.main is.form.main) (sym is.joined ∙ e)
 
 -- a version's text is the text that spells it
 pub own_text : (text : List ℕ) (v : Fields) → Spells text v → v.text ≡ text

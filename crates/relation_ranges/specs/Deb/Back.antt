@@ -1,4 +1,5 @@
--- The text of spans in Debian's range language: the text of the terms whose relations have the spans' cuts as bounds.
+-- The text of spans in Debian's range language, Debian Policy, 7.1: the text of the terms whose relations have the spans' cuts as
+-- bounds. Which text is printed is this project's own.
 use Rattle.std.specs.Prelude.{ℕ, Bool, true, false, List, [], ◌∷◌, ◌++◌, if◌then◌else◌, Option, Some, None, Result, Ok}
 use Rattle.vx_scheme.specs.declared.domain.Domain.{Domain}
 use Rattle.vx_scheme.specs.declared.back_fault.BackFault.{BackFault}

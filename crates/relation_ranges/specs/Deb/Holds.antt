@@ -1,4 +1,4 @@
--- When a relation of Debian holds of a version.
+-- When a relation of Debian holds of a version: Debian Policy, 7.1.
 use Rattle.std.specs.Prelude.{Bool}
 use Rattle.std.specs.Ordering.{is_eq, is_lt, is_le, is_gt, is_ge}
 use Rattle.std.specs.declared.cmp.Ordering.{Ordering}

@@ -7,8 +7,8 @@ use Rattle.deb_scheme.specs.contracts.scheme.DebScheme.TheImpl as versions
 use Rattle.deb_scheme.specs.contracts.version.DebVersion as version
 use Rattle.relation_ranges.specs.declared.range.RelationRange.{RelationRange}
 use Rattle.relation_ranges.specs.contracts.deb.operators.Operator as operator
-use Rattle.relation_ranges.specs.contracts.deb.operators.RelationSigns as signs
-use Rattle.relation_ranges.specs.contracts.deb.operators.RelationSignsByteClass.TheImpl as sign_bytes
+use Rattle.relation_ranges.specs.contracts.comparison.RelationSigns as signs
+use Rattle.relation_ranges.specs.contracts.comparison.RelationSignsByteClass.TheImpl as sign_bytes
 use Rattle.relation_ranges.specs.contracts.deb.table.DebRelations.TheImpl as table
 use Rattle.relation_ranges.specs.contracts.deb.range.DebBackForm.TheImpl as back_form
 use Rattle.relation_ranges.specs.contracts.range.RelationRangeScheme.TheImpl.{ghosts as scheme_of, no_dict}

@@ -1,5 +1,5 @@
 -- The operators of Debian's relations, after Debian Policy, 7.1.
-use Rattle.std.specs.Prelude.{◌==◌, ◌||◌, ℕ, Bool, List, codes}
+use Rattle.std.specs.Prelude.{ℕ, List, codes}
 use Rattle.relation_ranges.specs.declared.deb.operators.Operator.{Operator}
 use Rattle.relation_ranges.specs.declared.deb.operators.Operator.TheVariants.{Earlier, EarlierOrEqual, Equal, LaterOrEqual, Later}
 
@@ -14,7 +14,3 @@ signs_of EarlierOrEqual = codes "<="
 signs_of Equal = codes "="
 signs_of LaterOrEqual = codes ">="
 signs_of Later = codes ">>"
-
--- '<' (60), '=' (61) or '>' (62)
-abbrev pub is_sign : ℕ → Bool
-is_sign b = b == 60 || b == 61 || b == 62

@@ -1,4 +1,5 @@
--- Debian's range language: which versions are in a text, which spans the text makes, and what it is refused for.
+-- Debian's range language, Debian Policy, 7.1: which versions are in a text, which spans the text makes, and what it is refused
+-- for.
 use Rattle.std.specs.Prelude.{ℕ, List, Some}
 use Rattle.vx_scheme.specs.declared.domain.Domain.{Domain}
 use Rattle.vx_scheme.specs.declared.range_fault.RangeFault.{RangeFault}
@@ -7,7 +8,8 @@ use Rattle.vx_text.specs.Past.{first_past}
 use Rattle.deb_scheme.specs.Version.{Fields}
 use Rattle.deb_scheme.specs.Spelling.{Spells}
 use Rattle.relation_ranges.specs.Range as relations
-use Rattle.relation_ranges.specs.Deb.Operators.{bar, is_sign}
+use Rattle.relation_ranges.specs.Deb.Operators.{bar}
+use Rattle.relation_ranges.specs.Comparison.{is_sign}
 use Rattle.relation_ranges.specs.Deb.Reading.{HasSigns}
 use Rattle.relation_ranges.specs.Deb.Holds.{holds}
 use Rattle.relation_ranges.specs.Deb.Spans.{spans_of}

@@ -1,5 +1,5 @@
--- Debian's relations: an operator, blanks or none, and a version. The text is a comma list of terms, each of relations with
--- a bar between each two.
+-- Debian's relations, Debian Policy, 7.1: an operator, blanks or none, and a version. The text is a comma list of terms, each of
+-- relations with a bar between each two.
 use Rattle.std.specs.Prelude.{◌≡◌, ℕ, List, Some}
 use Rattle.vx_text.specs.Past.{first_past}
 use Rattle.vx_range.specs.Lists.{Plain}
@@ -9,7 +9,8 @@ use Rattle.deb_scheme.specs.Spelling.{Spells}
 use Rattle.relation_ranges.specs.declared.relations.Relation.{Relation}
 use Rattle.relation_ranges.specs.declared.deb.operators.Operator.{Operator}
 use Rattle.relation_ranges.specs.Reading as relations
-use Rattle.relation_ranges.specs.Deb.Operators.{bar, signs_of, is_sign}
+use Rattle.relation_ranges.specs.Deb.Operators.{bar, signs_of}
+use Rattle.relation_ranges.specs.Comparison.{is_sign}
 
 -- a relation of Debian
 abbrev pub DebRelation : Type 0

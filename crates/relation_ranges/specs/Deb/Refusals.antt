@@ -1,4 +1,4 @@
--- What becomes of Debian's relations.
+-- What becomes of Debian's relations: this project's own.
 use Rattle.vx_scheme.specs.declared.domain.Domain.{Domain}
 use Rattle.vx_range.specs.declared.making.Outcome.{Outcome}
 use Rattle.vx_range.specs.declared.making.Outcome.TheVariants as made

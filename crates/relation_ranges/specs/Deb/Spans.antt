@@ -1,4 +1,4 @@
--- The span of each operator and its version, the same in each domain.
+-- The span of each operator of Debian Policy, 7.1, and its version, the same in each domain.
 use Rattle.std.specs.Prelude.{ℕ, List}
 use Rattle.vx_scheme.specs.declared.span.Span.{Span}
 use Rattle.vx_range.specs.Spans.{point, from, above, below, up_to}

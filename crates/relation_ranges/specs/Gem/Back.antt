@@ -1,4 +1,5 @@
--- The text of spans in RubyGems' range language: the bounds of all together, and `!= V` for each hole.
+-- The text of spans in RubyGems' range language (`Gem::Requirement`): the bounds of all together, and `!= V` for each hole. Which
+-- text is printed is this project's own.
 use Rattle.std.specs.Prelude.{ℕ, List, [], ◌∷◌, ◌++◌, if◌then◌else◌, Option, Some, None, Result, Ok, Err}
 use Rattle.vx_scheme.specs.declared.domain.Domain.{Domain}
 use Rattle.vx_scheme.specs.declared.back_fault.BackFault.{BackFault}

@@ -1,4 +1,5 @@
--- RubyGems' range language: which versions are in a text, which spans the text makes, and what it is refused for.
+-- RubyGems' range language (`Gem::Requirement`): which versions are in a text, which spans the text makes, and what it is refused
+-- for.
 use Rattle.std.specs.Prelude.{ℕ, List, None}
 use Rattle.vx_scheme.specs.declared.domain.Domain.{Domain}
 use Rattle.vx_scheme.specs.declared.range_fault.RangeFault.{RangeFault}

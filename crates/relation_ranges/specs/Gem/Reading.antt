@@ -1,4 +1,5 @@
--- RubyGems' requirements: an operator or none, blanks or none, and a version. The text is a comma list of them.
+-- RubyGems' requirements (`Gem::Requirement::PATTERN`): an operator or none, blanks or none, and a version. That a text is a comma
+-- list of them is this project's own.
 use Rattle.std.specs.Prelude.{ℕ, List, None}
 use Rattle.vx_text.specs.Past.{first_past}
 use Rattle.vx_range.specs.Lists.{Plain}

@@ -1,4 +1,4 @@
--- The spans of each operator of RubyGems and its version, and what becomes of it in a domain.
+-- The spans of each operator of `Gem::Requirement` and its version, and what becomes of it in a domain: this project's own.
 use Rattle.std.specs.Prelude.{◌+◌, ◌^◌, ℕ, nat_lt, if◌then◌else◌, List, ◌++◌}
 use Rattle.vx_scheme.specs.declared.domain.Domain.{Domain}
 use Rattle.vx_scheme.specs.declared.domain.Domain.TheVariants.{All, Releases}

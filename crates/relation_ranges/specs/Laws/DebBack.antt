@@ -20,7 +20,7 @@ use Rattle.relation_ranges.specs.Deb.Holds.{is_so, holds}
 use Rattle.vx_range.specs.Making.{terms_hold}
 use Rattle.vx_range.specs.Spans.{is_point}
 use Rattle.vx_range.specs.Laws.Points as points
-use Rattle.relation_ranges.specs.Laws.Gaps.{IsRising, after_cut, equal_of, point_says, spans_are, spans_say}
+use Rattle.vx_range.specs.Laws.Gaps.{IsRising, after_cut, equal_of, point_says, spans_are, spans_say}
 use Rattle.relation_ranges.specs.Range.{relation_holds}
 use Rattle.relation_ranges.specs.Deb.Range.{IsRange, In}
 use Rattle.relation_ranges.specs.Laws.DebRange.{one_reads}

@@ -10,7 +10,8 @@ use Rattle.deb_scheme.specs.Laws.Unique.{one_reading}
 use Rattle.relation_ranges.specs.Range.{relation_outcome}
 use Rattle.relation_ranges.specs.Laws.Reading.{cut_laws, piece_laws}
 use Rattle.relation_ranges.specs.Laws.DebTable.{one_operator}
-use Rattle.relation_ranges.specs.Deb.Operators.{bar, is_sign}
+use Rattle.relation_ranges.specs.Deb.Operators.{bar}
+use Rattle.relation_ranges.specs.Comparison.{is_sign}
 use Rattle.relation_ranges.specs.Deb.Reading.{DebRelation, HasSigns, IsCut, ReadsAs, IsPast, Reads}
 use Rattle.relation_ranges.specs.Deb.Refusals.{outcome}
 use Rattle.relation_ranges.specs.Deb.Range.{Refuses}

@@ -5,6 +5,7 @@ use Rattle.std.specs.List.{list_any}
 use Rattle.std.proofs.lemmas.List.Folds.{list_any-append}
 use Rattle.vx_spec.specs.Each.{joined}
 use Rattle.vx_scheme.specs.declared.domain.Domain.{Domain}
+use Rattle.vx_scheme.specs.declared.range_fault.EndKind.{EndKind}
 use Rattle.vx_scheme.specs.Cuts.{cut_below, span_at, in_spans}
 use Rattle.vx_scheme.specs.Native.{by_domain}
 use Rattle.vx_range.specs.declared.making.Outcome.TheVariants as made
@@ -57,3 +58,7 @@ term_says (relation ∷ term) mark v =
 
 pub agrees : (domain : Domain) (mark : ℕ) (operator : Operator) (bound v : Fields) → IsVersion v → by_domain (λ _. ⊤) (λ _. ⊤) domain v → outcome domain operator bound ≡ made.Spans → in_spans order_of (spans_of mark operator bound) v ≡ holds operator bound v
 agrees domain mark operator bound v version within spans = relation_says operator bound mark v
+
+-- no relation is without an end
+pub deb_ends : (domain : Domain) (operator : Operator) (bound : Fields) (kind : EndKind) → ¬ (outcome domain operator bound ≡ made.NoEnd kind)
+deb_ends domain operator bound kind none = cc none

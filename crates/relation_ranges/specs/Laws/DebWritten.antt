@@ -9,7 +9,8 @@ use Rattle.deb_scheme.specs.Laws.Texts.{deb_texts}
 use Rattle.deb_scheme.proofs.Bytes.{is_version_byte, spelled_bytes}
 use Rattle.relation_ranges.specs.declared.deb.operators.Operator.{Operator}
 use Rattle.relation_ranges.specs.declared.deb.operators.Operator.TheVariants.{Earlier, EarlierOrEqual, Equal, LaterOrEqual, Later}
-use Rattle.relation_ranges.specs.Deb.Operators.{signs_of, is_sign}
+use Rattle.relation_ranges.specs.Deb.Operators.{signs_of}
+use Rattle.relation_ranges.specs.Comparison.{is_sign}
 use Rattle.relation_ranges.specs.Deb.Reading.{DebRelation, HasSigns, Reads}
 use Rattle.relation_ranges.specs.Deb.Back.{range_text}
 use Rattle.relation_ranges.specs.Laws.Written as written

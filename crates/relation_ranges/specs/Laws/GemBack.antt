@@ -24,7 +24,7 @@ use Rattle.relation_ranges.specs.Gem.Holds.{holds}
 use Rattle.relation_ranges.specs.Gem.Range.{IsRange, In}
 use Rattle.relation_ranges.specs.Gem.Back.{range_text, hole_term, hole_terms, last_upper, back_terms, first_gap, text_unless, back}
 use Rattle.relation_ranges.specs.Laws.Compared.{lower_by, upper_by}
-use Rattle.relation_ranges.specs.Laws.Gaps.{IsRising, after_cut, hole_says, point_says, spans_are, spans_say}
+use Rattle.vx_range.specs.Laws.Gaps.{IsRising, after_cut, hole_says, point_says, spans_are, spans_say}
 use Rattle.relation_ranges.specs.Laws.GemRange.{one_reads}
 use Rattle.relation_ranges.specs.Laws.GemWords.{TermIs, written_read}
 

@@ -21,7 +21,7 @@ use Rattle.relation_ranges.specs.Gem.Operators.{HasSigns, signs_of}
 use Rattle.relation_ranges.specs.Gem.Holds.{holds}
 use Rattle.relation_ranges.specs.Gem.Spans.{outcome, spans_of}
 use Rattle.relation_ranges.specs.Laws.Compared.{compared_says}
-use Rattle.relation_ranges.specs.Laws.Gaps.{apart_is}
+use Rattle.vx_range.specs.Laws.Gaps.{apart_is}
 
 -- an operator is told by the sum of its signs
 abbrev sum_of : List ℕ → ℕ

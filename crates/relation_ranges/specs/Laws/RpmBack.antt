@@ -29,7 +29,7 @@ use Rattle.relation_ranges.specs.Rpm.Range.{IsRange, In}
 use Rattle.relation_ranges.specs.Rpm.Spans.{has_release, is_open, named_in}
 use Rattle.relation_ranges.specs.Rpm.Back.{back, joined_from, joined_spans, kept, meets, moved, moved_bound, moved_span, range_text, text_of}
 use Rattle.relation_ranges.specs.Laws.Compared.{lower_by, upper_by}
-use Rattle.relation_ranges.specs.Laws.Gaps.{equal_of, point_says}
+use Rattle.vx_range.specs.Laws.Gaps.{equal_of, point_says}
 use Rattle.relation_ranges.specs.Laws.RpmOrder.{Fits, equal_has, named_none, same_in}
 use Rattle.relation_ranges.specs.Laws.RpmRange.{one_reads}
 use Rattle.relation_ranges.specs.Laws.RpmTable.{moved_parts}

@@ -10,7 +10,7 @@ use Rattle.rpm_scheme.specs.Laws.Unique.{one_reading}
 use Rattle.relation_ranges.specs.Range.{relation_outcome}
 use Rattle.relation_ranges.specs.Laws.Reading.{cut_laws, piece_laws}
 use Rattle.relation_ranges.specs.Laws.RpmTable.{one_operator}
-use Rattle.relation_ranges.specs.Deb.Operators.{is_sign}
+use Rattle.relation_ranges.specs.Comparison.{is_sign}
 use Rattle.relation_ranges.specs.Rpm.Reading.{HasSigns, RpmRelation, IsCut, ReadsAs, IsPast, Reads}
 use Rattle.relation_ranges.specs.Rpm.Spans.{outcome}
 use Rattle.relation_ranges.specs.Rpm.Range.{Refuses}

@@ -1,20 +1,19 @@
 -- RPM's relations are words: what is written of terms is read as these terms.
-use Rattle.std.proofs.Common.{◌≡◌, ℕ, true, false, List, ◌∷◌, ◌++◌, refl, sym, subst, Option, Some, None}
+use Rattle.std.proofs.Common.{◌≡◌, ℕ, true, false, List, refl, sym, subst}
 use Rattle.std.specs.List.{list_all, AllByRecursion}
 use Rattle.std.specs.Char.{is_ascii_digit}
 use Rattle.std.proofs.Common.{arith}
 use Rattle.std.proofs.lemmas.Bool.Decides.{nat_tests}
-use Rattle.vx_spec.specs.Marks.{in_front, marked}
-use Rattle.vx_spec.proofs.TextLaws.{each_append, each_by_test, test_by_each}
-use Rattle.rpm_scheme.specs.Version.{Fields, hyphen}
-use Rattle.rpm_scheme.specs.Spelling.{IsVersion, Spells, colon, is_epoch, is_part, is_part_byte, is_release_part}
+use Rattle.vx_spec.proofs.TextLaws.{each_by_test, test_by_each}
+use Rattle.vx_text.proofs.EpochLaws.{last_each, whole_each}
+use Rattle.rpm_scheme.specs.Version.{Fields}
+use Rattle.rpm_scheme.specs.Spelling.{IsVersion, Spells, is_part, is_part_byte}
 use Rattle.rpm_scheme.specs.Writing.{normal}
 use Rattle.rpm_scheme.specs.Laws.Texts.{rpm_texts}
-use Rattle.rpm_scheme.specs.Laws.Unique.{numeral_bytes, part_bytes}
+use Rattle.rpm_scheme.specs.Laws.Unique.{part_bytes}
 use Rattle.relation_ranges.specs.declared.comparison.Comparison.{Comparison}
 use Rattle.relation_ranges.specs.declared.comparison.Comparison.TheVariants.{Less, LessOrEqual, Equal, GreaterOrEqual, Greater}
-use Rattle.relation_ranges.specs.Comparison.{signs_of}
-use Rattle.relation_ranges.specs.Deb.Operators.{is_sign}
+use Rattle.relation_ranges.specs.Comparison.{is_sign, signs_of}
 use Rattle.relation_ranges.specs.Rpm.Reading.{HasSigns, RpmRelation, Reads}
 use Rattle.relation_ranges.specs.Rpm.Back.{range_text}
 use Rattle.relation_ranges.specs.Laws.Written as written
@@ -34,19 +33,11 @@ part_word b is = grind (arith, nat_tests)
 part_words : (part : List ℕ) → is_part part ≡ true → AllByRecursion IsWordByte part
 part_words part is = each_by_test IsWordByte is_part_byte part part_word (part_bytes part is)
 
-release_words : (part : Option (List ℕ)) → is_release_part part ≡ true → AllByRecursion IsWordByte (marked hyphen part)
-release_words None is = tt
-release_words (Some part) is = (refl, part_words part is)
-
-front_words : (part : Option (List ℕ)) (rest : List ℕ) → is_epoch part ≡ true → AllByRecursion IsWordByte rest → AllByRecursion IsWordByte (in_front colon part rest)
-front_words None rest is all = all
-front_words (Some part) rest is all = each_append IsWordByte part (colon ∷ rest) (each_by_test IsWordByte is_ascii_digit part digit_word (numeral_bytes part is)) (refl, all)
-
 text_words : (v : Fields) → IsVersion v → AllByRecursion IsWordByte (normal v)
 text_words v is =
     let p = is.parts in
-    let rest = each_append IsWordByte p.version (marked hyphen p.release) (part_words p.version is.form.version) (release_words p.release is.form.release) in
-    subst (AllByRecursion IsWordByte) (sym is.joined) (front_words p.epoch (p.version ++ marked hyphen p.release) is.form.epoch rest)
+    let all = whole_each IsWordByte digit_word refl p is.form.epoch (part_words p.main is.form.main) (last_each IsWordByte is_part part_words refl p.last is.form.last) in
+    subst (AllByRecursion IsWordByte) (sym is.joined) all
 
 text_word : (v : Fields) → IsVersion v → IsWord (normal v)
 text_word v is = record {

@@ -1,5 +1,5 @@
--- The text of spans in RPM's range language: the cuts are moved to where the domain has its versions, and what is then left
--- has to be one interval.
+-- The text of spans in RPM's range language: the cuts are moved to where the domain has its versions, and what is then left has to
+-- be one interval. Which text is printed is this project's own.
 use Rattle.std.specs.Prelude.{◌&&◌, ◌||◌, not, ℕ, Bool, false, List, [], ◌∷◌, filter, map, if◌then◌else◌, Option, Some, None, Result, Ok, Err}
 use Rattle.std.specs.Ordering.{is_lt}
 use Rattle.vx_scheme.specs.declared.domain.Domain.{Domain}

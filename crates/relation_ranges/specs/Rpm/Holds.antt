@@ -1,4 +1,5 @@
--- When a relation of RPM holds of a version, after rpm's dependency comparison: a release counts only where both have one.
+-- When a relation of RPM holds of a version. The operators and the order are rpm's; that one version passes the test, where rpm
+-- compares the ranges of two dependencies, is this project's own reading of it: a release counts only where both have one.
 use Rattle.std.specs.Prelude.{Bool, List, [], ◌∷◌, Option, Some, None}
 use Rattle.std.specs.Ordering.{ordering_then}
 use Rattle.std.specs.declared.cmp.Ordering.{Ordering}

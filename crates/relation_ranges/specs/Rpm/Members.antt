@@ -7,8 +7,8 @@ use Rattle.rpm_scheme.specs.contracts.scheme.RpmScheme.TheImpl as versions
 use Rattle.rpm_scheme.specs.contracts.version.RpmVersion as version
 use Rattle.relation_ranges.specs.declared.range.RelationRange.{RelationRange}
 use Rattle.relation_ranges.specs.contracts.comparison.Comparison as operator
-use Rattle.relation_ranges.specs.contracts.deb.operators.RelationSigns as signs
-use Rattle.relation_ranges.specs.contracts.deb.operators.RelationSignsByteClass.TheImpl as sign_bytes
+use Rattle.relation_ranges.specs.contracts.comparison.RelationSigns as signs
+use Rattle.relation_ranges.specs.contracts.comparison.RelationSignsByteClass.TheImpl as sign_bytes
 use Rattle.relation_ranges.specs.contracts.rpm.table.RpmRelations.TheImpl as table
 use Rattle.relation_ranges.specs.contracts.rpm.range.RpmBackForm.TheImpl as back_form
 use Rattle.relation_ranges.specs.contracts.range.RelationRangeScheme.TheImpl.{ghosts as scheme_of, no_dict}

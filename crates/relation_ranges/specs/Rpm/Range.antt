@@ -1,4 +1,5 @@
--- RPM's range language: which versions are in a text, which spans the text makes, and what it is refused for.
+-- RPM's range language, by the operators of its reference manual, "Dependencies": which versions are in a text, which spans the
+-- text makes, and what it is refused for.
 use Rattle.std.specs.Prelude.{ℕ, List, None}
 use Rattle.vx_scheme.specs.declared.domain.Domain.{Domain}
 use Rattle.vx_scheme.specs.declared.range_fault.RangeFault.{RangeFault}
@@ -7,7 +8,7 @@ use Rattle.vx_text.specs.Past.{first_past}
 use Rattle.rpm_scheme.specs.Version.{Fields}
 use Rattle.rpm_scheme.specs.Spelling.{Spells}
 use Rattle.relation_ranges.specs.Range as relations
-use Rattle.relation_ranges.specs.Deb.Operators.{is_sign}
+use Rattle.relation_ranges.specs.Comparison.{is_sign}
 use Rattle.relation_ranges.specs.Rpm.Reading.{HasSigns}
 use Rattle.relation_ranges.specs.Rpm.Holds.{holds}
 use Rattle.relation_ranges.specs.Rpm.Spans.{spans_of, outcome}

@@ -1,4 +1,5 @@
--- RPM's relations: an operator, blanks or none, and a version. The text is a comma list of them.
+-- RPM's relations, by the operators of its reference manual, "Dependencies": an operator, blanks or none, and a version. That a
+-- text is a comma list of them is this project's own.
 use Rattle.std.specs.Prelude.{◌≡◌, ℕ, List, None}
 use Rattle.vx_text.specs.Past.{first_past}
 use Rattle.vx_range.specs.Lists.{Plain}
@@ -7,8 +8,7 @@ use Rattle.rpm_scheme.specs.Version.{Fields}
 use Rattle.rpm_scheme.specs.Spelling.{Spells}
 use Rattle.relation_ranges.specs.declared.relations.Relation.{Relation}
 use Rattle.relation_ranges.specs.declared.comparison.Comparison.{Comparison}
-use Rattle.relation_ranges.specs.Comparison.{signs_of}
-use Rattle.relation_ranges.specs.Deb.Operators.{is_sign}
+use Rattle.relation_ranges.specs.Comparison.{is_sign, signs_of}
 use Rattle.relation_ranges.specs.Reading as relations
 
 -- a relation of RPM

@@ -1,4 +1,4 @@
--- The span of each operator of RPM and its version, and what becomes of it in a domain.
+-- The span of each operator of RPM and its version, and what becomes of it in a domain: this project's own.
 use Rattle.std.specs.Prelude.{◌||◌, ℕ, Bool, true, false, if◌then◌else◌, List}
 use Rattle.std.specs.Option.{is_some}
 use Rattle.vx_scheme.specs.declared.domain.Domain.{Domain}

@@ -1,8 +1,6 @@
 ghost use Rattle.std.specs.Prelude.{◌≡◌, MatchOption};
 ghost use Rattle.relation_ranges.specs.Deb.Operators.{signs_of};
 
-use vx_text::ByteClass;
-
 /// An operator of Debian's relations.
 #[derive(Debug, Clone, Copy, PartialEq, Eq)]
 pub enum Operator {
@@ -16,19 +14,6 @@ pub enum Operator {
     LaterOrEqual,
     /// `>>`
     Later,
-}
-
-/// The bytes `<`, `=` and `>`, of which operators are written.
-pub struct RelationSigns;
-
-impl ByteClass for RelationSigns {
-    ghost use Rattle.relation_ranges.specs.Deb.Operators.{is_sign};
-
-    ghost holds = { is_sign };
-
-    fn is_one(byte: u8) -> bool {
-        byte == b'<' || byte == b'=' || byte == b'>'
-    }
 }
 
 /// The operator that is written so; `None` exactly where none is.

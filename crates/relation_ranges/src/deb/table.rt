@@ -1,4 +1,5 @@
-use crate::deb::operators::{Operator, RelationSigns, operator_of};
+use crate::comparison::RelationSigns;
+use crate::deb::operators::{Operator, operator_of};
 use crate::relations::Relations;
 use deb_scheme::{Deb, DebVersion, past_numeral};
 use std::alloc::Global;
@@ -17,7 +18,7 @@ impl Relations for Deb {
     ghost use Rattle.relation_ranges.specs.Deb.Spans.{spans_of};
     ghost use Rattle.relation_ranges.specs.Deb.Holds.{holds};
     ghost use Rattle.relation_ranges.specs.Deb.Refusals.{outcome};
-    ghost use Rattle.relation_ranges.specs.Laws.DebTable.{one_operator, agrees};
+    ghost use Rattle.relation_ranges.specs.Laws.DebTable.{one_operator, agrees, deb_ends};
 
     type Operator = Operator;
 
@@ -39,6 +40,11 @@ impl Relations for Deb {
 
     ghost holds = { holds };
 
+    // Each relation has its end, and so none has two versions that are named here.
+    ghost size = { λ _. 0 };
+
+    ghost Tells = { λ _ _ _ _ _. ⊥ };
+
     ghost one_operator = { one_operator };
 
     ghost utf8 = { spelled_utf8 };
@@ -46,6 +52,10 @@ impl Relations for Deb {
     ghost limits = { limits_agree };
 
     ghost agrees = { agrees };
+
+    ghost some_told = { λ domain operator bound kind none n. absurd (deb_ends domain operator bound kind none) };
+
+    ghost told_apart = { λ domain operator bound kind n v w is none tells. absurd tells };
 
     /// Both domains are offered: every version is in each.
     fn offers(_domain: Domain) -> bool {

@@ -22,7 +22,9 @@ impl Relations for Gem {
     ghost use Rattle.relation_ranges.specs.Gem.Operators.{HasSigns};
     ghost use Rattle.relation_ranges.specs.Gem.Spans.{spans_of, outcome};
     ghost use Rattle.relation_ranges.specs.Gem.Holds.{holds};
+    ghost use Rattle.relation_ranges.specs.Gem.Apart.{size, Tells};
     ghost use Rattle.relation_ranges.specs.Laws.GemTable.{one_operator, agrees};
+    ghost use Rattle.relation_ranges.specs.Laws.GemApart.{gem_apart, gem_tells};
 
     type Operator = Operator;
 
@@ -44,6 +46,10 @@ impl Relations for Gem {
 
     ghost holds = { holds };
 
+    ghost size = { size };
+
+    ghost Tells = { Tells };
+
     ghost one_operator = { one_operator };
 
     ghost utf8 = { spelled_utf8 };
@@ -51,6 +57,10 @@ impl Relations for Gem {
     ghost limits = { limits_agree };
 
     ghost agrees = { agrees };
+
+    ghost some_told = { gem_tells };
+
+    ghost told_apart = { λ domain operator bound kind n v w is none tells. gem_apart domain operator bound is kind none n v w tells };
 
     /// Both domains are offered.
     fn offers(_domain: Domain) -> bool {

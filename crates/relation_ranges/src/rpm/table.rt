@@ -3,8 +3,7 @@ ghost use Rattle.vx_scheme.specs.declared.range_fault.EndKind.TheVariants as end
 ghost use Rattle.vx_range.specs.declared.making.Outcome.TheVariants as made;
 ghost use Rattle.relation_ranges.specs.Rpm.Spans.{has_release, is_open, named_in, outcome};
 
-use crate::comparison::{Comparison, comparison_of, push_compared};
-use crate::deb::RelationSigns;
+use crate::comparison::{Comparison, RelationSigns, comparison_of, push_compared};
 use crate::relations::Relations;
 use rpm_scheme::{Rpm, RpmVersion, past_numeral, without_release};
 use std::alloc::Global;
@@ -21,7 +20,9 @@ impl Relations for Rpm {
     ghost use Rattle.relation_ranges.specs.Rpm.Reading.{HasSigns};
     ghost use Rattle.relation_ranges.specs.Rpm.Spans.{spans_of, outcome};
     ghost use Rattle.relation_ranges.specs.Rpm.Holds.{holds};
+    ghost use Rattle.relation_ranges.specs.Rpm.Apart.{size, Tells, beyond, with_release, with_tildes};
     ghost use Rattle.relation_ranges.specs.Laws.RpmTable.{one_operator, agrees};
+    ghost use Rattle.relation_ranges.specs.Laws.RpmApart.{rpm_apart, rpm_tells};
 
     type Operator = Comparison;
 
@@ -43,6 +44,10 @@ impl Relations for Rpm {
 
     ghost holds = { holds };
 
+    ghost size = { size };
+
+    ghost Tells = { Tells };
+
     ghost one_operator = { one_operator };
 
     ghost utf8 = { spelled_utf8 };
@@ -50,6 +55,11 @@ impl Relations for Rpm {
     ghost limits = { limits_agree };
 
     ghost agrees = { agrees };
+
+    ghost some_told = { λ domain operator bound kind none n.
+        (with_release (beyond n bound) bound, with_tildes (beyond n bound) bound, rpm_tells domain operator bound kind n none) };
+
+    ghost told_apart = { rpm_apart };
 
     /// Both domains are offered.
     fn offers(_domain: Domain) -> bool {

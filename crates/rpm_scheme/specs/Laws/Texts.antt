@@ -1,22 +1,16 @@
 -- What texts spell, and which: exactly the versions. The normal text is the text as it is written.
-use Rattle.std.proofs.Common.{◌≡◌, ◌≢◌, ℕ, true, List, [], ◌∷◌, ◌++◌, Option, Some, None, refl, sym, ap, ◌∙◌}
+use Rattle.std.proofs.Common.{◌≡◌, ◌≢◌, ℕ, List, [], refl, sym, ap, ◌∙◌}
 use Rattle.std.specs.Cmp.{tied_itself}
-use Rattle.vx_spec.specs.Marks.{in_front, marked}
 use Rattle.vx_scheme.specs.Scheme.{TextLaws}
-use Rattle.rpm_scheme.specs.Version.{Fields, IsWithin, hyphen}
-use Rattle.rpm_scheme.specs.Spelling.{Spells, IsVersion, colon, is_part, version_of}
+use Rattle.vx_text.proofs.EpochLaws.{whole_some}
+use Rattle.rpm_scheme.specs.Version.{Fields, IsWithin}
+use Rattle.rpm_scheme.specs.Spelling.{Spells, IsVersion, version_of}
 use Rattle.rpm_scheme.specs.Writing.{normal}
 use Rattle.rpm_scheme.specs.Order.{order_of, order_total}
-use Rattle.rpm_scheme.specs.Laws.Unique.{one_reading}
-
-not_blank : (epoch : Option (List ℕ)) (version rest : List ℕ) → is_part version ≡ true → in_front colon epoch (version ++ rest) ≢ []
-not_blank None [] rest is e = cc is
-not_blank None (b ∷ version) rest is e = cc e
-not_blank (Some []) version rest is e = cc e
-not_blank (Some (b ∷ part)) version rest is e = cc e
+use Rattle.rpm_scheme.specs.Laws.Unique.{one_reading, part_some}
 
 not_empty : (v : Fields) → IsVersion v → v.text ≢ []
-not_empty v is e = not_blank is.parts.epoch is.parts.version (marked hyphen is.parts.release) is.form.version (sym is.joined ∙ e)
+not_empty v is e = whole_some is.parts (part_some is.parts.main is.form.main) (sym is.joined ∙ e)
 
 -- a version's text is the text that spells it
 pub own_text : (text : List ℕ) (v : Fields) → Spells text v → v.text ≡ text

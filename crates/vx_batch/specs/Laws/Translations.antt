@@ -39,7 +39,7 @@ of_request (Canon vers) line h = record { canonical = h.0; printed = h.2; same =
 of_request (Has vers version) line (found, (held, is, shown), printed) = record { held = held; printed = rw shown at printed; is = is }
 of_request (Purl purl) line h = record { canonical = h.0; printed = h.2; is = h.1; equal = λ other found bytes also there. equal_texts purl h.0 other found bytes also h.1 there }
 of_request (Same first second) line (found, (told, is, shown), printed) = record { told = told; printed = rw shown at printed; is = is }
-of_request (Check purl vers) line h = cc h.0
+of_request (Check purl vers) line (found, (held, is, shown), printed) = record { held = held; printed = rw shown at printed; is = is }
 
 -- the accepted line to the fields of a request says what the request's command promises
 pub says : (request : Request (List ℕ)) (line : List ℕ) → IsAnswer (fields_of request) true line → Says request line

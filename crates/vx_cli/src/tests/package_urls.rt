@@ -22,7 +22,9 @@ same;pkg:gem/x?b=2&a=1;pkg:gem/x?A=1&b=2&c=$ok\tyes
 same;pkg:pypi/a_b;pkg:pypi/A-B$ok\tyes
 same;pkg:gem/x%;pkg$no\t14 BadPurl\tEscape 9
 same;pkg:gem/x;pkg$no\t14 BadPurl\tScheme 0
-check;pkg:npm/x@1;vers:npm/*$no\t0 NotBuilt\t-";
+check;pkg:rpm/fedora/curl@7.50.3-1?epoch=1;vers:rpm/>=1:7.0|<1:8.0$ok\tyes
+check;pkg:golang/x@1;vers:npm/*$no\t16 NoScheme\t-
+check;pkg:npm/x;vers:npm/*$no\t15 NoVersion\t-";
 
 #[test]
 fn package_urls_are_answered(rt: HostRuntime) -> Result<(), Fail> {

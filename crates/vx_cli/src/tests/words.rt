@@ -65,10 +65,10 @@ const FIELDS: &str = "\
 to-vers;foo;bar;1$no\t4 BadScheme\t-
 to-vers;npm;bar;1$no\t5 BadDomain\t-
 to-vers;pypi;bar;>1$no\t5 BadDomain\t-
-to-vers;pypi;-;>1$no\t0 NotBuilt\t-
-to-vers;nuget;all;>1$no\t0 NotBuilt\t-
+to-vers;pypi;-;>1$ok\tvers:pypi/>1
+to-vers;nuget;all;>1$no\t7 Syntax\t0
 to-vers;npm;-;^1.2.3$ok\tvers:npm/>=1.2.3|<2.0.0-0
-check;pkg:npm/x@1;vers:npm/*$no\t0 NotBuilt\t-
+check;pkg:npm/x@1;vers:npm/*$no\t12 BadVersion\t-
 canon;vers:npm/*$ok\tvers:npm/*";
 
 #[test]
@@ -92,7 +92,7 @@ batch;x";
 // Lines of words that are one.
 const COMMANDS: &str = "\
 drill;0001
-drill;1000000
+drill;12
 purl;0
 from-vers;all;vers:npm/*
 has;vers:npm/*;1.0.0
@@ -175,4 +175,27 @@ fn the_statuses_have_their_numbers(rt: HostRuntime) {
     ] {
         assert_eq!(rt; status.number(), number);
     }
+}
+
+#[test]
+fn a_drill_writes_its_sums(rt: HostRuntime) -> Result<(), Fail> {
+    let alloc = rt.alloc();
+    for (line, status, text) in [
+        ("drill;8", Status::Done, "lines 8\nok 8\nno 0\nbytes 247\n"),
+        (
+            "drill;016",
+            Status::Done,
+            "lines 16\nok 16\nno 0\nbytes 500\n",
+        ),
+    ] {
+        let mut source = PlainSource::new(Vec::new(alloc));
+        let made = MemorySink::with_room(alloc, 100, Vec::new(alloc));
+        assert!(rt; made.is_ok());
+        if let Ok(mut sink) = made {
+            let words = words_of(alloc, line)?;
+            assert_eq!(rt; run(alloc, &words, &mut source, &mut sink), status);
+            assert_eq!(rt; sink.bytes(), text.as_bytes());
+        }
+    }
+    Ok(())
 }

@@ -1,4 +1,4 @@
-use Rattle.gem_scheme.proofs.TokenLaws.{word_utf8}
+use Rattle.vx_text.proofs.PastLaws.{word_utf8}
 use Rattle.gem_scheme.proofs.segments.push_letters.Goals as goal
 
 pub unreachable-requires : goal.unreachable-requires

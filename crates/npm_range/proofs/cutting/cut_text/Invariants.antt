@@ -9,8 +9,8 @@ use Rattle.npm_range.proofs.cutting.cut_text.Given as goal
 abbrev pub invariant-loop-front : goal.invariant-loop-front
 invariant-loop-front l = record {
   place : l.at + length l.rest ≡ length l.fn.text;
-  found : (more : List (List (Written Kind))) → AreAlternatives l.at l.rest more → AreAlternatives 0 l.fn.text (map seen_all l.groups.items ++ more);
-  placed : AllByRecursion (AllByRecursion IsInPlace) (map seen_all l.groups.items);
+  found : (more : List (List (Written Kind))) → AreAlternatives l.at l.rest more → AreAlternatives 0 l.fn.text (map seen_all l.groups ++ more);
+  placed : AllByRecursion (AllByRecursion IsInPlace) (map seen_all l.groups);
 }
 
 abbrev pub decreases-loop-front : goal.decreases-loop-front

@@ -1,4 +1,4 @@
-use Rattle.rpm_scheme.proofs.TokenLaws.{word_utf8}
+use Rattle.vx_text.proofs.PastLaws.{word_utf8}
 use Rattle.rpm_scheme.proofs.letters.push_word.Goals as goal
 
 pub unreachable-requires : goal.unreachable-requires

@@ -8,9 +8,9 @@ use Rattle.vx_range.proofs.lists.group_list.Given as goal
 
 abbrev pub invariant-loop-groups : goal.invariant-loop-groups
 invariant-loop-groups l = record {
-  found : map seen_all l.groups.items ++ groups_from l.inner (pieces_at 44 l.from l.rest) ≡ groups_from l.inner (pieces_at 44 0 l.fn.text);
+  found : map seen_all l.groups ++ groups_from l.inner (pieces_at 44 l.from l.rest) ≡ groups_from l.inner (pieces_at 44 0 l.fn.text);
   place : l.from + length l.rest ≡ length l.fn.text;
-  placed : AllByRecursion (AllByRecursion IsInPlace) (map seen_all l.groups.items);
+  placed : AllByRecursion (AllByRecursion IsInPlace) (map seen_all l.groups);
 }
 
 abbrev pub decreases-loop-groups : goal.decreases-loop-groups

@@ -10,18 +10,18 @@ use Rattle.vx_range.proofs.lists.pieces_at.Goals as goal
 pub returns-in_default-clause-pieces : goal.returns-in_default-clause-pieces
 returns-in_default-clause-pieces c =
     let cut = rw c.in_default.is at c.cut_bytes.ensures in
-    let items = c.loop-pieces.pieces.items in
-    rw (c.in_ok-push.ensures.items, map_push seen items c.piece_of.result)
+    let items = c.loop-pieces.pieces in
+    rw (c.in_ok-push.ensures.ok, map_push seen items c.piece_of.result)
     (ap (λ (piece : Plain). map seen items ++ piece ∷ []) c.piece_of.ensures.piece ∙ last_piece c.args.separator c.loop-pieces.from c.loop-pieces.rest.now _ _ _ cut c.loop-pieces.invariant.found)
 
 pub loop-pieces-preserved : goal.loop-pieces-preserved
 loop-pieces-preserved c =
     let cut = rw c.in-Some.is at c.cut_bytes.ensures in
     let size = cut_length c.args.separator c.loop-pieces.rest.now _ _ cut in
-    let items = c.loop-pieces.pieces.items in record {
-      found = rw (c.in_ok-push.ensures.items, map_push seen items c.piece_of.result, c.piece_of.ensures.piece)
+    let items = c.loop-pieces.pieces in record {
+      found = rw (c.in_ok-push.ensures.ok, map_push seen items c.piece_of.result, c.piece_of.ensures.piece)
           (more_pieces c.args.separator c.loop-pieces.from c.loop-pieces.rest.now _ _ _ _ cut c.loop-pieces.invariant.found);
       place = omega (arith, size, c.loop-pieces.invariant.place);
-      placed = rw (c.in_ok-push.ensures.items, map_push seen items c.piece_of.result)
+      placed = rw (c.in_ok-push.ensures.ok, map_push seen items c.piece_of.result)
           (each_append IsInPlace (map seen items) (seen c.piece_of.result ∷ []) c.loop-pieces.invariant.placed (omega (arith, size, c.piece_of.ensures.within, c.loop-pieces.invariant.place, c.requires), tt));
     }

@@ -7,9 +7,9 @@ use Rattle.vx_range.proofs.lists.pieces_at.Given as goal
 
 abbrev pub invariant-loop-pieces : goal.invariant-loop-pieces
 invariant-loop-pieces l = record {
-  found : map seen l.pieces.items ++ pieces_at l.separator l.from l.rest ≡ pieces_at l.separator l.fn.at l.fn.text;
+  found : map seen l.pieces ++ pieces_at l.separator l.from l.rest ≡ pieces_at l.separator l.fn.at l.fn.text;
   place : l.from + length l.rest ≡ l.fn.at + length l.fn.text;
-  placed : AllByRecursion IsInPlace (map seen l.pieces.items);
+  placed : AllByRecursion IsInPlace (map seen l.pieces);
 }
 
 abbrev pub decreases-loop-pieces : goal.decreases-loop-pieces

@@ -4,7 +4,7 @@ use Rattle.vx_range.specs.Pieces.{seen}
 use Rattle.vx_range.specs.Steps.Found.{IsGroupFound, IsGroupMade}
 use Rattle.vx_range.proofs.shape.read_group.Given as goal
 
-abbrev pub invariant-loop-piece : goal.invariant-loop-piece
-invariant-loop-piece g l =
-    IsGroupFound g.L.Language.ReadsAs g.L.Language.IsPast (g.L.Making.outcome l.domain) (map seen (take l.piece-index l.pieces)) l.initial.findings l.findings
+abbrev pub invariant-loop-i : goal.invariant-loop-i
+invariant-loop-i g l =
+    IsGroupFound g.L.Language.ReadsAs g.L.Language.IsPast (g.L.Making.outcome l.domain) (map seen (take l.i l.pieces)) l.initial.findings l.findings
     (IsGroupMade g.S.Shape.together (g.L.Making.spans l.domain) l.initial.findings.marks l.findings.marks l.shape)

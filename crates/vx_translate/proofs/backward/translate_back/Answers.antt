@@ -23,7 +23,7 @@ returns-clause-err g c = λ some.
     let memory : c.in-Err.fault ≢ fault_of.NoMemory = λ e. some (c.from.ensures ∙ ap refusal_of_back e) in
     no_text g.N.Scheme g.N.Native c.args.domain c.args.text.now
     (λ refusal. RefusesBack g.N.Scheme g.N.Native c.args.domain c.args.text.now refusal)
-    (λ k n none. (offered, none)) (λ none. (offered, none)) c.from.result some
+    (λ k n none. (offered, none)) c.from.result some
     (record {
       list = c.in_ok-list.list;
       read = c.in_ok-list.ensures.ok;

@@ -1,0 +1,9 @@
+pub mod Spans
+pub mod Reading
+pub mod Range
+pub mod Words
+pub mod Back
+pub mod NugetTable
+pub mod MavenTable
+pub mod Refusals
+pub mod Sizes

@@ -1,0 +1,13 @@
+pub mod Signs
+pub mod Words
+pub mod Cutting
+pub mod Reading
+pub mod Holds
+pub mod Spans
+pub mod Range
+pub mod Sizes
+pub mod Back
+pub mod Maven
+pub mod Nuget
+pub mod Laws
+pub mod Steps

@@ -1,0 +1,4 @@
+pub mod Alone
+pub mod Range
+pub mod Sizes
+pub mod Members

@@ -1,0 +1,4 @@
+pub mod EndLaws
+pub mod NullLaws
+pub mod PastLaws
+pub mod TokenLaws

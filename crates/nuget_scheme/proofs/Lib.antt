@@ -1,0 +1,5 @@
+pub mod Apart
+pub mod Making
+pub mod Pushed
+pub mod PastLaws
+pub mod Bytes

@@ -1,0 +1,7 @@
+pub mod Version
+pub mod Order
+pub mod Spelling
+pub mod Writing
+pub mod Past
+pub mod Laws
+pub mod Steps

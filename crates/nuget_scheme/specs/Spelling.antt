@@ -1,0 +1,64 @@
+-- The text of a version after NuGet's page "Package versioning", "Version basics", "Where NuGetVersion diverges from Semantic
+-- Versioning" and "Normalized version numbers": the text is its parts, joined by their signs; each part has its form; and the
+-- version has their values.
+use Rattle.std.specs.Prelude.{◌≡◌, ℕ, nat_lt, true, List, [], ◌∷◌, ◌++◌, length, map, if◌then◌else◌}
+use Rattle.std.specs.List.{list_all, join_with_byte}
+use Rattle.vx_spec.specs.Numerals.{is_numeral, value}
+use Rattle.vx_spec.specs.Places.{endless}
+use Rattle.vx_scheme.specs.declared.ident.Ident.{Ident}
+use Rattle.vx_scheme.specs.declared.ident.Ident.TheVariants.{Number, Word}
+use Rattle.nuget_scheme.specs.Version.{Fields, dot, hyphen, is_label}
+
+-- the parts of a version's text; none where the labels or the build are left out
+pub record Parts : Type 0 where
+  pub numbers : List (List ℕ)
+  pub labels : List (List ℕ)
+  pub build : List (List ℕ)
+
+-- the byte '+'
+abbrev pub plus : ℕ
+plus = 43
+
+-- parts joined by '.', behind their mark, where there are any
+abbrev pub tail : ℕ → List (List ℕ) → List ℕ
+tail mark [] = []
+tail mark (first ∷ more) = mark ∷ join_with_byte dot (first ∷ more)
+
+-- the whole text: the numbers joined by '.', '-' and the labels, '+' and the build
+abbrev pub whole : Parts → List ℕ
+whole p = join_with_byte dot p.numbers ++ tail hyphen p.labels ++ tail plus p.build
+
+-- each part has its form
+pub record AreVersionParts (p : Parts) : Type 0 where
+  -- "Where NuGetVersion diverges from Semantic Versioning": one number is required, and there may be four
+  pub some : nat_lt 0 (length p.numbers) ≡ true
+  pub few : nat_lt (length p.numbers) 5 ≡ true
+  -- "Normalized version numbers": leading zeros are accepted
+  pub numerals : list_all is_numeral p.numbers ≡ true
+  pub labels : list_all is_label p.labels ≡ true
+  pub build : list_all is_label p.build ≡ true
+
+-- the number at a place, counted from 0; "all others are optional, and are equivalent to zero"
+abbrev pub number_at : ℕ → List (List ℕ) → ℕ
+number_at place numbers = endless 0 (map value numbers) place
+
+-- digits alone stand for their number, and any other label for itself
+abbrev pub label_of : List ℕ → Ident
+label_of text = if is_numeral text then Number (value text) else Word text
+
+-- the version that the parts stand for; "Normalized version numbers": the build is removed
+abbrev pub version_of : Parts → Fields
+version_of p = record {
+  major = number_at 0 p.numbers;
+  minor = number_at 1 p.numbers;
+  patch = number_at 2 p.numbers;
+  fourth = number_at 3 p.numbers;
+  labels = map label_of p.labels;
+}
+
+-- The text spells the version, with numerals of any length.
+pub record Spells (text : List ℕ) (v : Fields) : Type 0 where
+  pub parts : Parts
+  pub joined : text ≡ whole parts
+  pub form : AreVersionParts parts
+  pub values : v ≡ version_of parts

@@ -1,0 +1,6 @@
+pub mod BackLaws
+pub mod StarLaws
+pub mod OperandLaws
+pub mod MakingLaws
+pub mod LimitLaws
+pub mod RaiseLaws

@@ -1,0 +1,15 @@
+pub mod AgreeOrder
+pub mod AgreeNumbers
+pub mod AgreeWithin
+pub mod AgreeEqual
+pub mod AgreeLess
+pub mod AgreeGreater
+pub mod Agrees
+pub mod Readings
+pub mod BackWords
+pub mod BackParts
+pub mod Backs
+pub mod Ranges
+pub mod Apart
+pub mod NoEnd
+pub mod Sizes

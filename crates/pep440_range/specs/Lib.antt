@@ -1,0 +1,11 @@
+pub mod Reading
+pub mod Refusals
+pub mod Holds
+pub mod Spans
+pub mod Range
+pub mod Apart
+pub mod NoEnd
+pub mod Sizes
+pub mod Back
+pub mod Laws
+pub mod Steps
