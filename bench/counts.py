@@ -4,12 +4,9 @@
 
 Both are counts (of valgrind), which no other load of the machine disturbs. Ends with status 1 where a line makes more
 allocations than it may."""
-import os
-import re
-import subprocess
 import sys
 
-from timing import PROGRAM, build
+from running import allocations, build, instructions
 
 # The words of a call, and the most allocations that it may make above those of a usage fault.
 LINES = [
@@ -21,21 +18,6 @@ LINES = [
     (["purl", "pkg:npm/%40angular/animation@12.3.1"], 8),
 ]
 USAGE_FAULT = ["purl"]
-
-
-def counted(tool, shown, words, given=""):
-    """The number that a tool of valgrind shows behind such words, of one call that is given this input."""
-    run = subprocess.run(["valgrind", *tool, PROGRAM, *words], input=given, stdout=subprocess.DEVNULL,
-                         stderr=subprocess.PIPE, text=True, check=False)
-    return int(re.search(shown + r"\s*([\d,]+)", run.stderr).group(1).replace(",", ""))
-
-
-def allocations(words, given=""):
-    return counted(["--tool=memcheck"], "total heap usage:", words, given)
-
-
-def instructions(words, given=""):
-    return counted(["--tool=callgrind", f"--callgrind-out-file={os.devnull}"], r"Collected\s*:", words, given)
 
 
 def main():

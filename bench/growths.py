@@ -11,7 +11,7 @@ import subprocess
 import sys
 import tempfile
 
-from timing import PROGRAM, ROOT, build
+from running import PROGRAM, ROOT, build
 
 WORDS = [
     ["to-vers", "npm", "all", ">=1.2.3 <2.0.0"],

@@ -26,6 +26,24 @@ fn raise(number: u64) -> Result<u64, StepFault>
     }
 }
 
+/// `(M+1).0.0`
+fn next_major(major: u64) -> Result<CargoVersion, StepFault>
+    ensures ok { IfOk result (λ next. (next ≡ release_of (major + 1) 0 0) × (is_raisable (Some major) ≡ true)) }
+    ensures err { IfErr result (IsTooLarge (Some major)) }
+{
+    let major = raise(major)?;
+    Ok(release(major, 0, 0))
+}
+
+/// `M.(m+1).0`
+fn next_minor(major: u64, minor: u64) -> Result<CargoVersion, StepFault>
+    ensures ok { IfOk result (λ next. (next ≡ release_of major (minor + 1) 0) × (is_raisable (Some minor) ≡ true)) }
+    ensures err { IfErr result (IsTooLarge (Some minor)) }
+{
+    let minor = raise(minor)?;
+    Ok(release(major, minor, 0))
+}
+
 /// Appends `[V, W]`. Each cut lies in memory, so memory ends before the marks do.
 fn push_closed(
     marks: &mut u64,
@@ -64,8 +82,8 @@ fn to_next_major(
     ensures ok { OnOk result (IsPushed (Some low.0) (to_next_major marks.old low) marks.old marks.new out.old out.new) }
     ensures err { IfErr result (IsTooLarge (Some low.0)) }
 {
-    let major = raise(low.inner.major)?;
-    push_between(marks, low, release(major, 0, 0), out)?;
+    let end = next_major(low.inner.major)?;
+    push_between(marks, low, end, out)?;
     Ok(())
 }
 
@@ -78,8 +96,7 @@ fn to_next_minor(
     ensures ok { OnOk result (IsPushed (Some low.1) (to_next_minor marks.old low) marks.old marks.new out.old out.new) }
     ensures err { IfErr result (IsTooLarge (Some low.1)) }
 {
-    let minor = raise(low.inner.minor)?;
-    let end = release(low.inner.major, minor, 0);
+    let end = next_minor(low.inner.major, low.inner.minor)?;
     push_between(marks, low, end, out)?;
     Ok(())
 }
@@ -95,14 +112,8 @@ fn push_greater(
 {
     match partial {
         Partial::Full(version) => push_above(marks, version, out)?,
-        Partial::Minor(major, minor) => {
-            let minor = raise(minor)?;
-            push_from(marks, release(major, minor, 0), out)?;
-        }
-        Partial::Major(major) => {
-            let major = raise(major)?;
-            push_from(marks, release(major, 0, 0), out)?;
-        }
+        Partial::Minor(major, minor) => push_from(marks, next_minor(major, minor)?, out)?,
+        Partial::Major(major) => push_from(marks, next_major(major)?, out)?,
     }
     Ok(())
 }
@@ -129,14 +140,8 @@ fn push_less_equal(
 {
     match partial {
         Partial::Full(version) => push_up_to(marks, version, out)?,
-        Partial::Minor(major, minor) => {
-            let minor = raise(minor)?;
-            push_below(marks, release(major, minor, 0), out)?;
-        }
-        Partial::Major(major) => {
-            let major = raise(major)?;
-            push_below(marks, release(major, 0, 0), out)?;
-        }
+        Partial::Minor(major, minor) => push_below(marks, next_minor(major, minor)?, out)?,
+        Partial::Major(major) => push_below(marks, next_major(major)?, out)?,
     }
     Ok(())
 }

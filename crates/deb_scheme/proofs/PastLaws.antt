@@ -1,24 +1,25 @@
 -- A version is within the limit exactly where no numeral of its text is past it.
-use Rattle.std.proofs.Common.{◌≡◌, ◌↔◌, ◌<◌, ◌≤◌, ◌+◌, ◌^◌, ◌++◌, ℕ, zero, suc, true, false, List, [], ◌∷◌, length, map, drop, refl, sym, ap, ◌∙◌, subst, Option, Some, None, arith}
-use Rattle.std.specs.List.{AllByRecursion, flat_map, prefix_len}
+use Rattle.std.proofs.Common.{◌≡◌, ◌↔◌, ◌<◌, ◌≤◌, ◌^◌, ◌++◌, ℕ, zero, suc, true, false, List, [], ◌∷◌, length, drop, refl, sym, ap, ◌∙◌, subst, Option, Some, None, arith}
+use Rattle.std.specs.List.{AllByRecursion, prefix_len}
 use Rattle.std.specs.Char.{is_ascii_digit}
 use Rattle.std.proofs.lemmas.Bool.{not-true}
 use Rattle.std.proofs.lemmas.Bool.Decides.{nat_tests}
 use Rattle.vx_spec.specs.Marks.{marked}
-use Rattle.vx_spec.specs.Runs.{begins, run, past}
+use Rattle.vx_spec.specs.Runs.{run, past}
 use Rattle.vx_spec.proofs.RunLaws.{run_past, past_begins, run_all}
-use Rattle.vx_spec.proofs.EachLaws.{each_append}
+use Rattle.vx_spec.proofs.EachLaws.{each_append, each_behind}
 use Rattle.vx_spec.proofs.TextLaws.{each_by_test}
-use Rattle.vx_order.specs.declared.letter.Letter.{Letter}
-use Rattle.vx_order.specs.Letters.{end_letter}
+use Rattle.vx_order.specs.Scanning.{scanned_in}
+use Rattle.vx_order.specs.Laws.Scanning.{each_front}
 use Rattle.vx_text.specs.Past.{first_past, NonePast}
-use Rattle.vx_text.proofs.PastLaws.{first_none, no_digit, none_after, none_behind, none_digits, none_front, none_join, none_number, none_others, none_past, none_run, numeral_bytes, numeral_within}
-use Rattle.deb_scheme.specs.Version.{Fields, IsWithin, LetterIsWithin, is_other, letters_of, pairs_in, pair_letters, first_pair, behind_pair, byte_letter, end_rank, number_letter}
+use Rattle.vx_text.proofs.PastLaws.{first_none, no_digit, none_after, none_number, none_others, none_past, none_run}
+use Rattle.deb_scheme.specs.Version.{Fields, IsWithin, LetterIsWithin, is_other, letters_of, first_letters, behind_pair}
 use Rattle.vx_text.specs.EpochParts.{Parts, hyphen, is_optional, whole}
 use Rattle.vx_text.proofs.EpochLaws.{none_whole, whole_within}
 use Rattle.deb_scheme.specs.Spelling.{AreVersionParts, Spells, is_revision, is_revision_byte, is_upstream, is_upstream_byte, revision_text, version_of}
 use Rattle.deb_scheme.specs.Laws.Unique.{made_of}
-use Rattle.deb_scheme.proofs.PairLaws.{pair_within, behind_less}
+use Rattle.deb_scheme.specs.Laws.Pairs.{behind_less}
+use Rattle.deb_scheme.proofs.PairLaws.{number_within, pair_within}
 
 -- ---- versions without a numeral past the limit are within it
 
@@ -27,12 +28,12 @@ bytes_drop zero text h = h
 bytes_drop (suc n) [] h = tt
 bytes_drop (suc n) (b ∷ text) h = bytes_drop n text h.1
 
-pairs_within : (n : ℕ) (part : List ℕ) → NonePast part → AllByRecursion (λ b. b < 2 ^ 128) part → AllByRecursion LetterIsWithin (flat_map pair_letters (pairs_in n part))
+pairs_within : (n : ℕ) (part : List ℕ) → NonePast part → AllByRecursion (λ b. b < 2 ^ 128) part → AllByRecursion LetterIsWithin (scanned_in first_letters behind_pair n part)
 pairs_within zero part h bytes = tt
 pairs_within (suc n) [] h bytes = tt
 pairs_within (suc n) (b ∷ part) h bytes =
     let others = past is_other (b ∷ part) in
-    each_append LetterIsWithin (pair_letters (first_pair (b ∷ part))) (flat_map pair_letters (pairs_in n (behind_pair (b ∷ part))))
+    each_append LetterIsWithin (first_letters (b ∷ part)) (scanned_in first_letters behind_pair n (behind_pair (b ∷ part)))
     (pair_within (b ∷ part) bytes (none_run others (none_after is_other (b ∷ part) h)))
     (pairs_within n (behind_pair (b ∷ part)) (none_after is_ascii_digit others (none_after is_other (b ∷ part) h))
     (bytes_drop (prefix_len is_ascii_digit others) others (bytes_drop (prefix_len is_other (b ∷ part)) (b ∷ part) bytes)))
@@ -66,11 +67,7 @@ version_within text v s none = subst IsWithin (sym s.values) (parts_within text 
 other_no_digit : (b : ℕ) → is_other b ≡ true → is_ascii_digit b ≡ false
 other_no_digit b is = not-true (is_ascii_digit b) is
 
-each_front : (xs ys : List Letter) → AllByRecursion LetterIsWithin (xs ++ ys) → AllByRecursion LetterIsWithin xs × AllByRecursion LetterIsWithin ys
-each_front [] ys all = (tt, all)
-each_front (x ∷ xs) ys all = let r = each_front xs ys all.1 in ((all.0, r.0), r.1)
-
-none_pairs : (n : ℕ) (part : List ℕ) → length part ≤ n → AllByRecursion LetterIsWithin (flat_map pair_letters (pairs_in n part)) → NonePast part
+none_pairs : (n : ℕ) (part : List ℕ) → length part ≤ n → AllByRecursion LetterIsWithin (scanned_in first_letters behind_pair n part) → NonePast part
 none_pairs zero [] size all = tt
 none_pairs zero (b ∷ part) size all = absurd (omega (arith, size))
 none_pairs (suc n) [] size all = tt
@@ -79,9 +76,10 @@ none_pairs (suc n) (b ∷ part) size all =
     let behind_others = past is_other (b ∷ part) in
     let digits = run is_ascii_digit behind_others in
     let behind = past is_ascii_digit behind_others in
-    let here = each_front (pair_letters (first_pair (b ∷ part))) (flat_map pair_letters (pairs_in n behind)) all in
-    let number = (each_front (map byte_letter others) (end_letter end_rank ∷ number_letter digits ∷ []) here.0).1.1.0 in
-    let rest = none_pairs n behind (omega (arith, behind_less b part, size)) here.1 in
+    let letters = first_letters (b ∷ part) in
+    let more = scanned_in first_letters behind_pair n behind in
+    let number = number_within (b ∷ part) (each_front LetterIsWithin letters more all) in
+    let rest = none_pairs n behind (omega (arith, behind_less b part, size)) (each_behind LetterIsWithin letters more all) in
     let front = none_number digits behind (run_all is_ascii_digit behind_others) (past_begins is_ascii_digit behind_others) number rest in
     subst NonePast (sym (run_past is_other (b ∷ part) ∙ ap (λ (t : List ℕ). others ++ t) (run_past is_ascii_digit behind_others)))
     (none_others is_other other_no_digit others (digits ++ behind) (run_all is_other (b ∷ part)) front)

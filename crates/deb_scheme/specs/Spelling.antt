@@ -1,6 +1,6 @@
 -- The text of a version after Debian Policy, 5.6.12: the text is its parts, joined by their signs: an epoch, the upstream part,
 -- which is the main one, and the revision, which is the last; each part has its form; and the version has their values.
-use Rattle.std.specs.Prelude.{◌≡◌, ℕ, ◌&&◌, ◌||◌, ◌==◌, nat_lt, Bool, true, List, ◌++◌, length, Option, Some, None, codes}
+use Rattle.std.specs.Prelude.{◌≡◌, ℕ, ◌&&◌, ◌||◌, ◌==◌, nat_lt, Bool, List, length, Option, Some, None, codes}
 use Rattle.std.specs.Char.{is_ascii_alphanumeric}
 use Rattle.std.specs.List.{list_all}
 use Rattle.vx_text.specs.EpochParts.{HaveForms, Parts, epoch_value, hyphen, whole}

@@ -1,12 +1,13 @@
 -- A version after Debian Policy, 5.6.12: its fields, with numbers of any size and texts as their bytes; the letters of a
 -- part of its text; and the limit of numerals.
-use Rattle.std.specs.Prelude.{ℕ, zero, suc, ◌==◌, ◌<◌, ◌^◌, not, Bool, if◌then◌else◌, List, [], ◌∷◌, ◌++◌, length, map}
+use Rattle.std.specs.Prelude.{ℕ, ◌==◌, ◌<◌, ◌^◌, not, Bool, if◌then◌else◌, List, [], ◌∷◌, ◌++◌, map}
 use Rattle.std.specs.Char.{is_ascii_alphabetic, is_ascii_digit}
-use Rattle.std.specs.List.{AllByRecursion, flat_map}
+use Rattle.std.specs.List.{AllByRecursion}
 use Rattle.vx_spec.specs.Numerals.{value}
 use Rattle.vx_spec.specs.Runs.{run, past}
 use Rattle.vx_order.specs.declared.letter.Letter.{Letter}
 use Rattle.vx_order.specs.Letters.{end_letter}
+use Rattle.vx_order.specs.Scanning.{scanned}
 
 -- the fields: the text as it is written, the epoch, and the letters of the upstream part and of the revision
 pub record Fields : Type 0 where
@@ -31,16 +32,6 @@ first_pair part = record { others = run is_other part; digits = run is_ascii_dig
 -- what stands behind that pair
 abbrev pub behind_pair : List ℕ → List ℕ
 behind_pair part = past is_ascii_digit (past is_other part)
-
--- A part is read as such pairs, one behind the other to its end. A pair has a byte at least, so that a part has no more
--- pairs than bytes.
-abbrev pub pairs_in : ℕ → List ℕ → List Pair
-pairs_in zero part = []
-pairs_in (suc most) [] = []
-pairs_in (suc most) (b ∷ part) = first_pair (b ∷ part) ∷ pairs_in most (behind_pair (b ∷ part))
-
-abbrev pub pairs_of : List ℕ → List Pair
-pairs_of part = pairs_in (length part) part
 
 -- the byte '~'
 abbrev pub tilde : ℕ
@@ -79,9 +70,13 @@ number_letter digits = record { rank = number_rank; number = value digits; text 
 abbrev pub pair_letters : Pair → List Letter
 pair_letters pair = map byte_letter pair.others ++ (end_letter end_rank ∷ number_letter pair.digits ∷ [])
 
--- the letters of a part
+-- the letters of the pair at the front of a part
+abbrev pub first_letters : List ℕ → List Letter
+first_letters part = pair_letters (first_pair part)
+
+-- the letters of a part, pair by pair, each of which has a byte at least
 abbrev pub letters_of : List ℕ → List Letter
-letters_of part = flat_map pair_letters (pairs_of part)
+letters_of part = scanned first_letters behind_pair part
 
 -- a letter's number is within the limit of 128 bits
 abbrev pub LetterIsWithin : Letter → Type 0

@@ -4,4 +4,3 @@ pub mod PastLaws
 pub mod Pushed
 pub mod RowLaws
 pub mod SegmentLaws
-pub mod TokenLaws

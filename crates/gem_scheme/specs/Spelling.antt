@@ -1,12 +1,12 @@
 -- The text of a version after RubyGems' `Gem::Version::VERSION_PATTERN`: the text is its parts, joined by their signs; each
 -- part has its form; and the version has the segments that are scanned from the text.
-use Rattle.std.specs.Prelude.{◌≡◌, ◌==◌, ◌&&◌, ◌||◌, ℕ, zero, suc, nat_lt, if◌then◌else◌, Bool, true, List, [], ◌∷◌, ◌++◌, length, codes}
-use Rattle.std.specs.Char.{is_ascii_alphabetic, is_ascii_alphanumeric, is_ascii_digit}
+use Rattle.std.specs.Prelude.{◌≡◌, ◌==◌, ◌&&◌, ◌||◌, ℕ, nat_lt, if◌then◌else◌, Bool, true, List, [], ◌∷◌, ◌++◌, length, codes}
+use Rattle.std.specs.Char.{is_ascii_alphanumeric}
 use Rattle.std.specs.List.{flat_map, join_with_byte, list_all}
-use Rattle.vx_spec.specs.Numerals.{is_numeral, value}
-use Rattle.vx_spec.specs.Runs.{run, past}
+use Rattle.vx_spec.specs.Numerals.{is_numeral}
 use Rattle.vx_scheme.specs.declared.ident.Ident.{Ident}
 use Rattle.vx_scheme.specs.declared.ident.Ident.TheVariants.{Number, Word}
+use Rattle.vx_order.specs.Scanning.{behind_token, scanned, token_entries}
 use Rattle.gem_scheme.specs.Version.{Fields}
 
 -- the parts of a version's text: digits, pieces behind '.', and the labels behind '-', of which there are none where it is
@@ -58,35 +58,14 @@ written_byte b = if b == hyphen then codes ".pre." else b ∷ []
 abbrev pub written_out : List ℕ → List ℕ
 written_out text = flat_map written_byte text
 
--- `Gem::Version#segments` scans the text for `[0-9]+|[a-z]+` in either case: the segment at the front of a text, as long as
--- it can be; none where another byte stands there
+-- `Gem::Version#segments` scans the text for `[0-9]+|[a-z]+` in either case: the segment at the front of a text; none where
+-- another byte stands there
 abbrev pub first_segments : List ℕ → List Ident
-first_segments [] = []
-first_segments (b ∷ text) =
-    if is_ascii_digit b
-    then Number (value (run is_ascii_digit (b ∷ text))) ∷ []
-    else (if is_ascii_alphabetic b then Word (run is_ascii_alphabetic (b ∷ text)) ∷ [] else [])
-
--- what stands behind that segment or byte
-abbrev pub behind_first : List ℕ → List ℕ
-behind_first [] = []
-behind_first (b ∷ text) =
-    if is_ascii_digit b
-    then past is_ascii_digit (b ∷ text)
-    else (if is_ascii_alphabetic b then past is_ascii_alphabetic (b ∷ text) else text)
-
--- the segments of a text, one behind the other to its end, of which there are no more than bytes
-abbrev pub scanned_in : ℕ → List ℕ → List Ident
-scanned_in zero text = []
-scanned_in (suc most) [] = []
-scanned_in (suc most) (b ∷ text) = first_segments (b ∷ text) ++ scanned_in most (behind_first (b ∷ text))
-
-abbrev pub scanned : List ℕ → List Ident
-scanned text = scanned_in (length text) text
+first_segments text = token_entries Number Word (λ b. []) text
 
 -- the segments of a version's text
 abbrev pub segments_of : List ℕ → List Ident
-segments_of text = scanned (written_out text)
+segments_of text = scanned first_segments behind_token (written_out text)
 
 -- the version of a text
 abbrev pub version_of : List ℕ → Fields

@@ -67,57 +67,54 @@ fn are_pieces(text: Option<&str>) -> bool
     ensures { result ≡ list_all is_piece (split (option_copied text.entry)) }
 {
     match text {
-        Some(text) => all_pieces(text),
+        Some(text) => all_pieces(text.as_bytes()),
         None => true,
     }
 }
 
-fn all_pieces(text: &str) -> bool
+fn all_pieces(text: &[u8]) -> bool
     ensures { result ≡ list_all is_piece (slice_split (λ b. b == dot) text.now) }
 {
-    text.split('.').all(|part| is_piece(part))
+    text.split(|byte| *byte == b'.').all(|part| is_piece(part))
 }
 
-fn is_piece(text: &str) -> bool
+fn is_piece(text: &[u8]) -> bool
     ensures { result ≡ is_piece text.now }
 {
     !text.is_empty() && has_piece_bytes(text)
 }
 
-fn has_piece_bytes(text: &str) -> bool
+fn has_piece_bytes(text: &[u8]) -> bool
     ensures { result ≡ list_all is_ascii_alphanumeric text.now }
 {
-    text.as_bytes()
-        .iter()
-        .all(|byte| byte.is_ascii_alphanumeric())
+    text.iter().all(|byte| byte.is_ascii_alphanumeric())
 }
 
 fn are_labels(text: Option<&str>) -> bool
     ensures { result ≡ list_all is_label (split (option_copied text.entry)) }
 {
     match text {
-        Some(text) => all_labels(text),
+        Some(text) => all_labels(text.as_bytes()),
         None => true,
     }
 }
 
-fn all_labels(text: &str) -> bool
+fn all_labels(text: &[u8]) -> bool
     ensures { result ≡ list_all is_label (slice_split (λ b. b == dot) text.now) }
 {
-    text.split('.').all(|part| is_label(part))
+    text.split(|byte| *byte == b'.').all(|part| is_label(part))
 }
 
-fn is_label(text: &str) -> bool
+fn is_label(text: &[u8]) -> bool
     ensures { result ≡ is_label text.now }
 {
     !text.is_empty() && has_label_bytes(text)
 }
 
-fn has_label_bytes(text: &str) -> bool
+fn has_label_bytes(text: &[u8]) -> bool
     ensures { result ≡ list_all is_label_byte text.now }
 {
-    text.as_bytes()
-        .iter()
+    text.iter()
         .all(|byte| byte.is_ascii_alphanumeric() || *byte == b'-')
 }
 

@@ -5,9 +5,9 @@ use Rattle.std.proofs.lemmas.Bool.{cases_Bool, and_parts, ltb-true, lt-ltb}
 use Rattle.std.proofs.lemmas.List.{length-map}
 use Rattle.vx_spec.specs.Numerals.{is_numeral, value}
 use Rattle.vx_range.specs.Pieces.{Written}
+use Rattle.vx_order.specs.PastParts.{first_past_part, is_past_numeral}
 use Rattle.npm_scheme.specs.Version.{without_build}
 use Rattle.npm_scheme.specs.Spelling.{has_leading_zero, version_of}
-use Rattle.npm_scheme.specs.Past.{is_past_numeral, first_past_part}
 use Rattle.npm_scheme.proofs.PastLaws.{none_within, within_none}
 use Rattle.npm_range.specs.declared.cutting.Kind.{Kind}
 use Rattle.npm_range.specs.declared.construct.Construct.{Construct}

@@ -1,12 +1,14 @@
 -- The numbers between dots, from left to right.
-use Rattle.std.proofs.Common.{◌≡◌, ◌<◌, ◌≤◌, ◌+◌, ◌^◌, not, ℕ, List, [], ◌∷◌, length, map, true, false, refl, sym, ap, ◌∙◌, Option, Some, None, arith, ltb}
-use Rattle.std.specs.List.{list_all}
+use Rattle.std.proofs.Common.{◌≡◌, ◌<◌, ◌≤◌, ◌+◌, ◌^◌, not, ℕ, List, [], ◌∷◌, length, map, suc, Bool, ◌&&◌, true, false, refl, sym, ap, ◌∙◌, Option, Some, None, arith, eqb, ltb}
+use Rattle.std.specs.List.{count_by, list_all}
 use Rattle.std.proofs.lemmas.Bool.{and_parts, ltb-true, le-ltb, lt-ltb}
+use Rattle.std.proofs.lemmas.Bool.Decides.{nat_tests}
 use Rattle.std.proofs.lemmas.List.{length-map}
+use Rattle.std.proofs.lemmas.List.Splits.{length-slice_split}
 use Rattle.vx_spec.specs.Marks.{IsCut}
 use Rattle.vx_spec.specs.Numerals.{is_numeral, value}
+use Rattle.vx_order.specs.PastParts.{first_past_part}
 use Rattle.npm_scheme.specs.Spelling.{has_leading_zero}
-use Rattle.npm_scheme.specs.Past.{first_past_part}
 use Rattle.npm_range.specs.declared.partials.Numbers.{Numbers}
 use Rattle.npm_range.specs.Reading.{is_any, is_number, numbers, is_short, before_any, values}
 use Rattle.npm_range.specs.Steps.Numbers.{values_in, past_of, past_in}
@@ -50,6 +52,33 @@ module _ (text front : List ℕ) (behind : Option (List ℕ)) (cut : IsCut 46 te
 
   pub rest_numbers : list_all is_number (numbers text) ≡ true → list_all is_number (numbers_behind behind) ≡ true
   rest_numbers all = (first_is_number all).1
+
+-- ---- one to three numbers
+-- the text is numbers, of which there are so many at most
+abbrev pub are_at_most : ℕ → List ℕ → Bool
+are_at_most most text = list_all is_number (numbers text) && ltb (length (numbers text)) (most + 1)
+
+both_less : (n m : ℕ) → ltb (suc n) (m + 1) ≡ ltb n m
+both_less n m = grind (arith, nat_tests)
+
+module _ (text front : List ℕ) where
+  pub no_number : (behind : Option (List ℕ)) → IsCut 46 text front behind → is_number front ≡ false → (most : ℕ) → are_at_most most text ≡ false
+  no_number behind cut none most = rw (split_first text front behind cut, none) refl
+
+  pub one_number : IsCut 46 text front None → is_number front ≡ true → (most : ℕ) → are_at_most (most + 1) text ≡ true
+  one_number cut is most = rw (split_first text front None cut, is) (lt-ltb 1 (most + 1 + 1) (omega arith))
+
+  pub more_numbers : (behind : List ℕ) → IsCut 46 text front (Some behind) → is_number front ≡ true → (most : ℕ) → are_at_most (most + 1) text ≡ are_at_most most behind
+  more_numbers behind cut is most = rw (split_first text front (Some behind) cut, is) (ap (λ (b : Bool). list_all is_number (numbers behind) && b) (both_less (length (numbers behind)) (most + 1)))
+
+pub short_at_most : (most : ℕ) (text : List ℕ) → most ≡ 3 → is_short text ≡ are_at_most most text
+short_at_most most text e = rw e refl
+
+no_less : (b : Bool) (n : ℕ) → b && ltb (n + 1) 1 ≡ false
+no_less b n = grind (arith, nat_tests)
+
+pub none_at_most : (text : List ℕ) → are_at_most 0 text ≡ false
+none_at_most text = rw (length-slice_split (λ (b : ℕ). eqb b 46) text) (no_less (list_all is_number (numbers text)) (count_by (λ (b : ℕ). eqb b 46) text))
 
 -- no number is left behind the third
 no_values : (parts : List (List ℕ)) (at : ℕ) → length (map value parts) < 1 → first_past_part at parts ≡ None

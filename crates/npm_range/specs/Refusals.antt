@@ -3,10 +3,10 @@ use Rattle.std.specs.Prelude.{◌≡◌, ◌==◌, ◌+◌, ◌-◌, ◌<◌, �
 use Rattle.vx_range.specs.declared.making.Outcome.{Outcome}
 use Rattle.vx_range.specs.declared.making.Outcome.TheVariants.{Spans, TooHigh}
 use Rattle.vx_range.specs.Pieces.{Written}
+use Rattle.vx_order.specs.PastParts.{first_past_part}
 use Rattle.npm_scheme.specs.Version.{IsWithin}
 use Rattle.npm_scheme.specs.Spelling.{Parts}
 use Rattle.npm_scheme.specs.Written.{IsVersionWritten}
-use Rattle.npm_scheme.specs.Past.{first_past_part}
 use Rattle.npm_range.specs.declared.cutting.Kind.{Kind}
 use Rattle.npm_range.specs.declared.construct.Construct.{Construct}
 use Rattle.npm_range.specs.declared.construct.Operator.{Operator}

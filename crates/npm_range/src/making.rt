@@ -109,7 +109,7 @@ fn to_next_patch(
     Ok(Outcome::Spans)
 }
 
-/// Nothing, `=`.
+/// Nothing, `=`. Of one number or two, or none, it is `~`.
 fn push_equal(
     alloc: Global,
     domain: Domain,
@@ -120,18 +120,12 @@ fn push_equal(
     ensures { IfOk result (IsPushedFor operator_of.Equal domain partial marks.old marks.new out.old out.new) }
 {
     match partial {
-        Partial::Full(version) => push_point::<Npm>(alloc, marks, version, out)?,
-        Partial::Minor(major, minor) => {
-            let low = release(alloc, major, minor, 0);
-            return to_next_minor(alloc, domain, marks, low, out);
+        Partial::Full(version) => {
+            push_point::<Npm>(alloc, marks, version, out)?;
+            Ok(Outcome::Spans)
         }
-        Partial::Major(major) => {
-            let low = release(alloc, major, 0, 0);
-            return to_next_major(alloc, domain, marks, low, out);
-        }
-        Partial::Any => push_every(out)?,
+        shorter => push_tilde(alloc, domain, marks, shorter, out),
     }
-    Ok(Outcome::Spans)
 }
 
 /// `>`
@@ -275,7 +269,7 @@ fn push_caret_of_full(
     }
 }
 
-/// `^`
+/// `^`. Of `0.m`, of one number or none, it is `~`.
 fn push_caret(
     alloc: Global,
     domain: Domain,
@@ -287,22 +281,11 @@ fn push_caret(
 {
     match partial {
         Partial::Full(version) => push_caret_of_full(alloc, domain, marks, version, out),
-        Partial::Minor(0, minor) => {
-            let low = release(alloc, 0, minor, 0);
-            to_next_minor(alloc, domain, marks, low, out)
-        }
-        Partial::Minor(major, minor) => {
+        Partial::Minor(major, minor) if major != 0 => {
             let low = release(alloc, major, minor, 0);
             to_next_major(alloc, domain, marks, low, out)
         }
-        Partial::Major(major) => {
-            let low = release(alloc, major, 0, 0);
-            to_next_major(alloc, domain, marks, low, out)
-        }
-        Partial::Any => {
-            push_every(out)?;
-            Ok(Outcome::Spans)
-        }
+        shorter => push_tilde(alloc, domain, marks, shorter, out),
     }
 }
 

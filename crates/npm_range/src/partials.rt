@@ -1,7 +1,8 @@
 ghost use Rattle.std.specs.Prelude.{◌≡◌, ◌==◌, ◌<◌, ◌+◌, ◌^◌, true, length, Some, IfOk, IfErr};
-ghost use Rattle.std.specs.List.{count_by, list_all, slice_split};
-ghost use Rattle.npm_scheme.specs.Version.{dot};
-ghost use Rattle.npm_scheme.specs.Spelling.{AreVersionParts, whole};
+ghost use Rattle.std.specs.List.{list_all};
+ghost use Rattle.std.specs.Char.{is_ascii_digit};
+ghost use Rattle.vx_spec.specs.Numerals.{is_numeral};
+ghost use Rattle.npm_scheme.specs.Spelling.{AreVersionParts, has_leading_zero, whole};
 ghost use Rattle.npm_scheme.specs.Written.{parts};
 ghost use Rattle.npm_range.specs.Reading.{is_any, is_number, is_short, numbers, values};
 ghost use Rattle.npm_range.specs.Steps.Numbers.{AreNumbers, values_in, past_of, past_in, LeadsTo, AnswersShort};
@@ -9,44 +10,61 @@ ghost use Rattle.npm_range.specs.Steps.Partials.{AnswersWhole, AnswersPartial};
 
 use crate::construct::Partial;
 use crate::making::release;
-use npm_scheme::{Written, is_plain_numeral, past_numeral, plain_version_of_parts, take_apart};
+use npm_scheme::{Written, past_numeral, plain_version_of_parts, take_apart};
 use std::alloc::Global;
 use vx_range::PieceReading;
 use vx_scheme::{NoMemory, VersionFault};
-use vx_text::{NumeralFault, cut, numeral};
+use vx_text::{NumeralFault, cut, cut_bytes, numeral};
 
-fn is_any(text: &str) -> bool
+fn is_any(text: &[u8]) -> bool
     ensures { result ≡ is_any text.now }
 {
-    match text.as_bytes() {
+    match text {
         [byte] => *byte == b'x' || *byte == b'X' || *byte == b'*',
         _ => false,
     }
 }
 
-fn is_number(text: &str) -> bool
+fn all_digits(text: &[u8]) -> bool
+    ensures { result ≡ list_all is_ascii_digit text.now }
+{
+    text.iter().all(|byte| byte.is_ascii_digit())
+}
+
+fn is_numeral(text: &[u8]) -> bool
+    ensures { result ≡ is_numeral text.now }
+{
+    !text.is_empty() && all_digits(text)
+}
+
+fn has_leading_zero(text: &[u8]) -> bool
+    ensures { result ≡ has_leading_zero text.now }
+{
+    text.len() > 1 && text[0] == b'0'
+}
+
+fn is_number(text: &[u8]) -> bool
     ensures { result ≡ is_number text.now }
 {
-    is_any(text) || is_plain_numeral(text)
-}
-
-fn all_numbers(text: &str) -> bool
-    ensures { result ≡ list_all is_number (slice_split (λ b. b == dot) text.now) }
-{
-    text.split('.').all(|part| is_number(part))
-}
-
-fn dots(text: &str) -> usize
-    ensures { result ≡ count_by (λ b. b == dot) text.now }
-{
-    text.as_bytes().iter().filter(|byte| **byte == b'.').count()
+    is_any(text) || is_numeral(text) && !has_leading_zero(text)
 }
 
 /// Whether the text is one to three numbers.
-fn is_short(text: &str) -> bool
+fn is_short(text: &[u8]) -> bool
     ensures { result ≡ is_short text.now }
 {
-    all_numbers(text) && dots(text) < 3
+    let mut rest = text;
+    for i in 0..3_usize {
+        let (number, behind) = cut_bytes(rest, b'.');
+        if !is_number(number) {
+            return false;
+        }
+        let Some(more) = behind else {
+            return true;
+        };
+        rest = more;
+    }
+    false
 }
 
 /// Numbers with dots between them.
@@ -66,7 +84,7 @@ fn first_number(text: &str, at: usize) -> Result<Option<(u128, Option<Numbers<'_
     ensures { LeadsTo (values text.now) (past_of at text.now) result }
 {
     let (first, behind) = cut(text, '.');
-    if is_any(first) {
+    if is_any(first.as_bytes()) {
         return Ok(None);
     }
     let number = match numeral(first) {
@@ -145,7 +163,7 @@ pub(crate) fn read_partial(
     requires { at + length text.now < 2 ^ 64 }
     ensures { IfOk result (AnswersPartial at text.now) }
 {
-    if is_short(text) {
+    if is_short(text.as_bytes()) {
         return match short_partial(alloc, text, at) {
             Ok(partial) => Ok(PieceReading::Construct(partial)),
             Err(at) => Ok(PieceReading::Past(at)),

@@ -1,14 +1,14 @@
 -- Which texts are not taken apart.
-use Rattle.std.proofs.Common.{◌≡◌, ℕ, List, [], ◌∷◌, ◌++◌, refl, sym, ap, ◌∙◌, Option, Some, None, ◌<◌, length, eqb, arith}
-use Rattle.std.specs.List.{join_with_byte, slice_split}
-use Rattle.std.proofs.lemmas.List.Splits.{length-slice_split, join_with_byte-slice_split}
-use Rattle.vx_spec.specs.Marks.{marked, IsCut}
+use Rattle.std.proofs.Common.{◌≡◌, ℕ, List, ◌∷◌, ◌++◌, refl, sym, ◌∙◌, Option, Some}
+use Rattle.vx_spec.specs.Marks.{IsCut}
 use Rattle.vx_spec.proofs.MarkLaws.{one_cut}
-use Rattle.npm_scheme.specs.Version.{dot, hyphen}
-use Rattle.npm_scheme.specs.Written.{IsVersionWritten, pieces}
+use Rattle.vx_order.specs.Dotted.{dot, pieces}
+use Rattle.vx_order.specs.Cuts.{IsCutApart}
+use Rattle.vx_order.specs.Laws.Dotted.{Found, cut_whole, found}
+use Rattle.npm_scheme.specs.Written.{IsVersionWritten}
 use Rattle.npm_scheme.specs.Steps.Dotted.{IsDotted}
-use Rattle.npm_scheme.specs.Spelling.{Parts, AreVersionParts, plus, tail, whole}
-use Rattle.npm_scheme.specs.Laws.Unique.{found, Found, numeral_lacks}
+use Rattle.npm_scheme.specs.Spelling.{Parts, AreVersionParts, core, whole}
+use Rattle.npm_scheme.specs.Laws.Unique.{core_lacks_hyphen, core_lacks_plus, numeral_lacks, pre_identifiers}
 
 -- where a text with two dots is cut
 pub dotted_first : {text front : List ℕ} {behind : Option (List ℕ)} → IsCut dot text front behind → (a b c : List ℕ) → IsDotted text a b c
@@ -22,16 +22,16 @@ dotted_second {text} {front} {rest} {middle} {behind} cut cut' a b c is =
     let first = dotted_first cut a b c is in
     one_cut dot b middle (Some c) behind is.second cut'.first (cc (first.1, cut'.joined))
 
-pub written_found : {text rest front : List ℕ} {pre build : Option (List ℕ)} → IsCut plus text rest build → IsCut hyphen rest front pre
-    → (p : Parts) → IsVersionWritten text p → Found p front pre build
-written_found {text} {rest} {front} {pre} {build} cut cut' p is =
-    found p rest front pre build is.form (sym is.joined ∙ cut.joined) cut.first cut'.joined cut'.first
+pub core_found : {text front : List ℕ} {pre build : Option (List ℕ)} → IsCutApart text front pre build → (p : Parts) → IsVersionWritten text p
+    → Found (core p.major p.minor p.patch) front p.pre p.build pre build
+core_found {text} {front} {pre} {build} cut p is =
+    found cut is.joined (core_lacks_plus p is.form) (core_lacks_hyphen p is.form) (pre_identifiers p.pre is.form.pre) is.form.build
 
 -- the numbers of a text that is written have their dots
-pub core_dotted : {text front : List ℕ} {pre build : Option (List ℕ)} → (p : Parts) → IsVersionWritten text p → Found p front pre build
+pub core_dotted : {text front : List ℕ} {pre build : Option (List ℕ)} → IsCutApart text front pre build → (p : Parts) → IsVersionWritten text p
     → IsDotted front p.major p.minor p.patch
-core_dotted p is f = record {
-  joined = f.core_is;
+core_dotted {text} {front} {pre} {build} cut p is = record {
+  joined = (core_found cut p is).core_is;
   first = numeral_lacks dot p.major refl is.form.major;
   second = numeral_lacks dot p.minor refl is.form.minor;
 }
@@ -41,11 +41,11 @@ abbrev pub cut_parts : List ℕ → List ℕ → List ℕ → Option (List ℕ) 
 cut_parts a b c pre build = record { major = a; minor = b; patch = c; pre = pieces pre; build = pieces build }
 
 -- they are the parts that the text is written of, where there are such
-pub same_parts : {text rest front a b c : List ℕ} {pre build : Option (List ℕ)} → IsCut plus text rest build → IsCut hyphen rest front pre → IsDotted front a b c
+pub same_parts : {text front a b c : List ℕ} {pre build : Option (List ℕ)} → IsCutApart text front pre build → IsDotted front a b c
     → (p : Parts) → IsVersionWritten text p → AreVersionParts (cut_parts a b c pre build)
-same_parts {text} {rest} {front} {a} {b} {c} {pre} {build} cut cut' dots p is =
-    let f = written_found cut cut' p is in
-    let d = core_dotted p is f in
+same_parts {text} {front} {a} {b} {c} {pre} {build} cut dots p is =
+    let f = core_found cut p is in
+    let d = core_dotted cut p is in
     let first = one_cut dot p.major a (Some (p.minor ++ dot ∷ p.patch)) (Some (b ++ dot ∷ c)) d.first dots.first (sym d.joined ∙ dots.joined) in
     let second = one_cut dot p.minor b (Some p.patch) (Some c) d.second dots.second (cc (first.1)) in
     let third : p.patch ≡ c = cc (second.1) in
@@ -53,22 +53,11 @@ same_parts {text} {rest} {front} {a} {b} {c} {pre} {build} cut cut' dots p is =
       major = rw (← first.0) is.form.major;
       minor = rw (← second.0) is.form.minor;
       patch = rw (← third) is.form.patch;
-      pre = rw f.pre_pieces is.form.pre;
-      build = rw f.build_pieces is.form.build;
+      pre = rw f.pre_is is.form.pre;
+      build = rw f.build_is is.form.build;
     }
 
-tail_some : (mark : ℕ) (xs : List (List ℕ)) → 0 < length xs → tail mark xs ≡ mark ∷ join_with_byte dot xs
-tail_some mark [] some = absurd (omega arith)
-tail_some mark (x ∷ xs) some = refl
-
-pub tail_pieces : (mark : ℕ) (part : Option (List ℕ)) → tail mark (pieces part) ≡ marked mark part
-tail_pieces mark None = refl
-tail_pieces mark (Some t) =
-    tail_some mark (slice_split (λ b. eqb b dot) t) (omega (arith, length-slice_split (λ b. eqb b dot) t))
-    ∙ ap (λ (r : List ℕ). mark ∷ r) (join_with_byte-slice_split dot t)
-
 -- what the cuts give is the text
-pub cut_whole : {text rest front a b c : List ℕ} {pre build : Option (List ℕ)} → IsCut plus text rest build → IsCut hyphen rest front pre → IsDotted front a b c
+pub joined_parts : {text front a b c : List ℕ} {pre build : Option (List ℕ)} → IsCutApart text front pre build → IsDotted front a b c
     → text ≡ whole (cut_parts a b c pre build)
-cut_whole {text} {rest} {front} {a} {b} {c} {pre} {build} cut cut' dots =
-    rw (tail_pieces hyphen pre, tail_pieces plus build, ← dots.joined, ← cut'.joined) cut.joined
+joined_parts {text} {front} {a} {b} {c} {pre} {build} cut dots = rw (← dots.joined) (cut_whole cut)

@@ -1,11 +1,11 @@
 -- The text of a version after Semantic Versioning 2.0, items 2, 9 and 10 and the grammar: the text is its parts, joined by their
 -- signs; each part has its form; and the version has their values.
-use Rattle.std.specs.Prelude.{◌≡◌, ℕ, ◌&&◌, ◌==◌, not, nat_lt, Bool, true, List, [], ◌∷◌, ◌++◌, length, map, slice_index, if◌then◌else◌}
+use Rattle.std.specs.Prelude.{◌≡◌, ℕ, ◌&&◌, ◌==◌, not, nat_lt, Bool, true, List, ◌∷◌, ◌++◌, length, map, slice_index}
 use Rattle.std.specs.List.{list_all, join_with_byte}
 use Rattle.vx_spec.specs.Numerals.{is_numeral, value}
-use Rattle.vx_scheme.specs.declared.ident.Ident.{Ident}
-use Rattle.vx_scheme.specs.declared.ident.Ident.TheVariants.{Number, Word}
-use Rattle.npm_scheme.specs.Version.{Fields, dot, hyphen, is_build_identifier}
+use Rattle.vx_order.specs.Dotted.{dot, hyphen, plus, tail}
+use Rattle.vx_order.specs.Identifiers.{identifier_of, is_identifier}
+use Rattle.npm_scheme.specs.Version.{Fields}
 
 -- the parts of a version's text; no identifiers where the pre-release or the build is left out
 pub record Parts : Type 0 where
@@ -15,18 +15,9 @@ pub record Parts : Type 0 where
   pub pre : List (List ℕ)
   pub build : List (List ℕ)
 
--- the byte '+'
-abbrev pub plus : ℕ
-plus = 43
-
 -- the byte '0'
 abbrev pub zero_digit : ℕ
 zero_digit = 48
-
--- items 9 and 10: identifiers joined by '.', behind their mark, where there are any
-abbrev pub tail : ℕ → List (List ℕ) → List ℕ
-tail mark [] = []
-tail mark (first ∷ more) = mark ∷ join_with_byte dot (first ∷ more)
 
 -- item 2: three numerals joined by '.'
 abbrev pub core : List ℕ → List ℕ → List ℕ → List ℕ
@@ -46,7 +37,7 @@ is_plain_numeral text = is_numeral text && not (has_leading_zero text)
 
 -- item 9, the grammar's pre-release identifier: an identifier that has no leading zeros where it is digits alone
 abbrev pub is_pre_identifier : List ℕ → Bool
-is_pre_identifier text = is_build_identifier text && not (is_numeral text && has_leading_zero text)
+is_pre_identifier text = is_identifier text && not (is_numeral text && has_leading_zero text)
 
 -- each part has the form that the grammar names for it
 pub record AreVersionParts (p : Parts) : Type 0 where
@@ -54,11 +45,7 @@ pub record AreVersionParts (p : Parts) : Type 0 where
   pub minor : is_plain_numeral p.minor ≡ true
   pub patch : is_plain_numeral p.patch ≡ true
   pub pre : list_all is_pre_identifier p.pre ≡ true
-  pub build : list_all is_build_identifier p.build ≡ true
-
--- digits alone stand for their number, and any other identifier for itself
-abbrev pub identifier_of : List ℕ → Ident
-identifier_of text = if is_numeral text then Number (value text) else Word text
+  pub build : list_all is_identifier p.build ≡ true
 
 -- the version that the parts stand for
 abbrev pub version_of : Parts → Fields

@@ -1,11 +1,11 @@
 -- A version after Semantic Versioning 2.0, items 2, 9 and 10: its fields, with numbers of any size and texts as their bytes;
 -- when they are a version's; and the limit of numerals.
-use Rattle.std.specs.Prelude.{◌≡◌, ◌==◌, ◌&&◌, ◌||◌, ◌^◌, ◌<◌, not, nat_lt, ℕ, Bool, true, List, [], ◌∷◌, length}
-use Rattle.std.specs.Char.{is_ascii_alphanumeric}
-use Rattle.std.specs.List.{AllByRecursion, list_all, slice_split}
-use Rattle.vx_spec.specs.Numerals.{is_numeral}
+use Rattle.std.specs.Prelude.{◌≡◌, ◌^◌, ◌<◌, ℕ, true, List, [], ◌∷◌}
+use Rattle.std.specs.List.{AllByRecursion, list_all}
 use Rattle.vx_scheme.specs.declared.ident.Ident.{Ident}
-use Rattle.vx_scheme.specs.declared.ident.Ident.TheVariants.{Number, Word}
+use Rattle.vx_scheme.specs.declared.ident.Ident.TheVariants.{Number}
+use Rattle.vx_order.specs.Dotted.{dotted}
+use Rattle.vx_order.specs.Identifiers.{IdentIsWithin, is_ident, is_identifier}
 
 -- the fields: item 2 has the three numbers, item 9 the pre-release identifiers, item 10 the build, as it is written
 pub record Fields : Type 0 where
@@ -15,41 +15,15 @@ pub record Fields : Type 0 where
   pub pre : List Ident
   pub build : List ℕ
 
--- the byte '.'
-abbrev pub dot : ℕ
-dot = 46
-
--- the byte '-'
-abbrev pub hyphen : ℕ
-hyphen = 45
-
--- items 9 and 10: identifiers hold only ASCII letters, digits and '-'
-abbrev pub is_identifier_byte : ℕ → Bool
-is_identifier_byte b = is_ascii_alphanumeric b || (b == hyphen)
-
--- the grammar's build identifier: one such byte or more
-abbrev pub is_build_identifier : List ℕ → Bool
-is_build_identifier text = nat_lt 0 (length text) && list_all is_identifier_byte text
-
--- a numeric identifier is any number; the grammar's alphanumeric identifier is an identifier that is not digits alone
-abbrev pub is_ident : Ident → Bool
-is_ident (Number n) = true
-is_ident (Word w) = is_build_identifier w && not (is_numeral w)
-
 -- the identifiers of a build: none where it is left out, else those between its dots
 abbrev pub build_pieces : List ℕ → List (List ℕ)
 build_pieces [] = []
-build_pieces (byte ∷ build) = slice_split (λ b. b == dot) (byte ∷ build)
+build_pieces (byte ∷ build) = dotted (byte ∷ build)
 
--- The fields are a version's: the pre-release and the build are made of identifiers.
+-- The fields are a version's: the pre-release and the build are made of identifiers (items 9 and 10).
 pub record IsVersion (v : Fields) : Type 0 where
   pub pre : list_all is_ident v.pre ≡ true
-  pub build : list_all is_build_identifier (build_pieces v.build) ≡ true
-
--- an identifier's number is within the limit of 128 bits
-abbrev pub IdentIsWithin : Ident → Type 0
-IdentIsWithin (Number n) = n < 2 ^ 128
-IdentIsWithin (Word w) = Unit {0}
+  pub build : list_all is_identifier (build_pieces v.build) ≡ true
 
 -- each number of the version is within the limit of 128 bits
 abbrev pub IsWithin : Fields → Type 0

@@ -1,15 +1,10 @@
 -- The normal text of a version after Semantic Versioning 2.0, items 2 and 9, which leaves the build (item 10) out.
 use Rattle.std.specs.Prelude.{ℕ, List, ◌++◌, map}
 use Rattle.vx_spec.specs.Numerals.{numeral_text}
-use Rattle.vx_scheme.specs.declared.ident.Ident.{Ident}
-use Rattle.vx_scheme.specs.declared.ident.Ident.TheVariants.{Number, Word}
-use Rattle.npm_scheme.specs.Version.{Fields, hyphen}
-use Rattle.npm_scheme.specs.Spelling.{core, tail}
-
--- a number's numeral without leading zeros, and a word as it stands
-abbrev pub identifier_text : Ident → List ℕ
-identifier_text (Number n) = numeral_text n
-identifier_text (Word w) = w
+use Rattle.vx_order.specs.Dotted.{hyphen, tail}
+use Rattle.vx_order.specs.Identifiers.{identifier_text}
+use Rattle.npm_scheme.specs.Version.{Fields}
+use Rattle.npm_scheme.specs.Spelling.{core}
 
 -- the three numerals joined by '.'
 abbrev pub numbers_text : Fields → List ℕ

@@ -1,15 +1,9 @@
 -- The parts of a text as the program holds them: the identifiers of a part still joined.
-use Rattle.std.specs.Prelude.{◌≡◌, ◌==◌, List, [], ℕ, Option, Some, None}
+use Rattle.std.specs.Prelude.{◌≡◌, List, ℕ}
 use Rattle.std.specs.Option.{option_copied}
-use Rattle.std.specs.List.{slice_split}
-use Rattle.npm_scheme.specs.Version.{dot}
+use Rattle.vx_order.specs.Dotted.{pieces}
 use Rattle.npm_scheme.specs.Spelling.{Parts, AreVersionParts, whole}
 use Rattle.npm_scheme.specs.declared.spelling.Written.{Written}
-
--- the identifiers between the dots of a part
-abbrev pub pieces : Option (List ℕ) → List (List ℕ)
-pieces None = []
-pieces (Some part) = slice_split (λ b. b == dot) part
 
 -- the parts that the program holds
 abbrev pub parts : Written → Parts

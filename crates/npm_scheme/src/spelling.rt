@@ -1,16 +1,19 @@
-ghost use Rattle.std.specs.Prelude.{◌≡◌, ◌==◌, ◌↔◌, true, List, MatchOption, IsTrue, IfOk, IfErr, map};
+ghost use Rattle.std.specs.Prelude.{◌≡◌, ◌↔◌, true, MatchOption, IsTrue, IfOk, IfErr};
 ghost use Rattle.std.specs.Option.{option_copied};
-ghost use Rattle.std.specs.List.{AllByRecursion, join_with_byte, list_all, slice_split};
+ghost use Rattle.std.specs.List.{join_with_byte, list_all};
 ghost use Rattle.vx_scheme.specs.Scheme.{Refuses};
 ghost use Rattle.vx_scheme.specs.Values.{Gives};
-ghost use Rattle.npm_scheme.specs.Version.{IdentIsWithin, IsWithin, build_pieces, dot, is_identifier_byte, is_build_identifier, with_build, without_build};
-ghost use Rattle.npm_scheme.specs.Spelling.{AreVersionParts, identifier_of, version_of, Spells, has_leading_zero, is_plain_numeral, is_pre_identifier};
-ghost use Rattle.npm_scheme.specs.Written.{pieces, parts, IsVersionWritten, NoVersionWritten};
+ghost use Rattle.vx_order.specs.Dotted.{dot, pieces};
+ghost use Rattle.vx_order.specs.Identifiers.{is_identifier};
+ghost use Rattle.npm_scheme.specs.Version.{IsWithin, build_pieces, with_build, without_build};
+ghost use Rattle.npm_scheme.specs.Spelling.{AreVersionParts, version_of, Spells, has_leading_zero, is_plain_numeral, is_pre_identifier};
+ghost use Rattle.npm_scheme.specs.Written.{parts, IsVersionWritten, NoVersionWritten};
 ghost use Rattle.npm_scheme.specs.Steps.Dotted.{IsDotted, NotDotted};
 
 use crate::version::NpmVersion;
 use std::alloc::Global;
-use vx_scheme::{Ident, Idents, NoMemory, Text, VersionFault};
+use vx_order::{Identifiers, PartForm, all_parts, cut_apart, is_identifier, read_idents};
+use vx_scheme::{NoMemory, Text, VersionFault};
 use vx_text::{cut, is_numeral, numeral_of};
 
 /// The parts of a version's text, as they are written.
@@ -45,8 +48,7 @@ pub(crate) fn read(alloc: Global, text: &str) -> Result<NpmVersion, VersionFault
 pub fn take_apart(text: &str) -> Option<Written<'_>>
     ensures { MatchOption result (NoVersionWritten text.now) (λ w. IsVersionWritten text.now (parts w)) }
 {
-    let (rest, build) = cut(text, '+');
-    let (core, pre) = cut(rest, '-');
+    let (core, pre, build) = cut_apart(text);
     let Some((major, minor, patch)) = dotted(core) else {
         return None;
     };
@@ -79,14 +81,16 @@ fn dotted(text: &str) -> Option<(&str, &str, &str)>
     Some((first, second, third))
 }
 
+// Out of line, so that the ways of failing don't each clear the parts.
+#[inline(never)]
 fn has_form(written: &Written) -> bool
     ensures { IsTrue result ↔ AreVersionParts (parts written.now) }
 {
     is_plain_numeral(written.major)
         && is_plain_numeral(written.minor)
         && is_plain_numeral(written.patch)
-        && is_pre(written.pre)
-        && is_build(written.build)
+        && all_parts::<PreIdentifiers>(written.pre)
+        && all_parts::<Identifiers>(written.build)
 }
 
 /// Whether the text is a numeral without leading zeros. It takes no memory.
@@ -103,54 +107,23 @@ fn has_leading_zero(text: &str) -> bool
     bytes.len() > 1 && bytes[0] == b'0'
 }
 
-fn is_pre(text: Option<&str>) -> bool
-    ensures { result ≡ list_all is_pre_identifier (pieces (option_copied text.entry)) }
-{
-    match text {
-        Some(text) => all_pre(text),
-        None => true,
-    }
-}
+// Identifiers that have no leading zeros where they are digits alone.
+struct PreIdentifiers;
 
-fn all_pre(text: &str) -> bool
-    ensures { result ≡ list_all is_pre_identifier (slice_split (λ b. b == dot) text.now) }
-{
-    text.split('.').all(|part| is_pre_identifier(part))
+impl PartForm for PreIdentifiers {
+    ghost use Rattle.npm_scheme.specs.Spelling.{is_pre_identifier};
+
+    ghost holds = { is_pre_identifier };
+
+    fn is_one(part: &str) -> bool {
+        is_pre_identifier(part)
+    }
 }
 
 fn is_pre_identifier(text: &str) -> bool
     ensures { result ≡ is_pre_identifier text.now }
 {
-    is_build_identifier(text) && !(is_numeral(text) && has_leading_zero(text))
-}
-
-fn is_build(text: Option<&str>) -> bool
-    ensures { result ≡ list_all is_build_identifier (pieces (option_copied text.entry)) }
-{
-    match text {
-        Some(text) => all_build(text),
-        None => true,
-    }
-}
-
-fn all_build(text: &str) -> bool
-    ensures { result ≡ list_all is_build_identifier (slice_split (λ b. b == dot) text.now) }
-{
-    text.split('.').all(|part| is_build_identifier(part))
-}
-
-fn is_build_identifier(text: &str) -> bool
-    ensures { result ≡ is_build_identifier text.now }
-{
-    !text.is_empty() && has_identifier_bytes(text)
-}
-
-fn has_identifier_bytes(text: &str) -> bool
-    ensures { result ≡ list_all is_identifier_byte text.now }
-{
-    text.as_bytes()
-        .iter()
-        .all(|byte| byte.is_ascii_alphanumeric() || *byte == b'-')
+    is_identifier(text) && !(is_numeral(text) && has_leading_zero(text))
 }
 
 /// The version that the parts stand for. `Numeral` comes exactly where one of their numerals passes 2^128-1, unless
@@ -174,13 +147,13 @@ pub fn plain_version_of_parts(alloc: Global, written: &Written) -> Result<NpmVer
 
 fn version_with(alloc: Global, written: &Written, build: Text) -> Result<NpmVersion, VersionFault>
     requires form { AreVersionParts (parts written.now) }
-    requires build { list_all is_build_identifier (build_pieces build) ≡ true }
+    requires build { list_all is_identifier (build_pieces build) ≡ true }
     ensures { Gives IsWithin result (with_build build (version_of (parts written.now))) }
 {
     let major = numeral_of(written.major)?;
     let minor = numeral_of(written.minor)?;
     let patch = numeral_of(written.patch)?;
-    let pre = identifiers(alloc, written.pre)?;
+    let pre = read_idents(alloc, written.pre)?;
     Ok(NpmVersion {
         major,
         minor,
@@ -188,42 +161,6 @@ fn version_with(alloc: Global, written: &Written, build: Text) -> Result<NpmVers
         pre,
         build,
     })
-}
-
-fn identifiers(alloc: Global, text: Option<&str>) -> Result<Idents, VersionFault>
-    ensures { Gives (AllByRecursion IdentIsWithin) result (map identifier_of (pieces (option_copied text.entry))) }
-{
-    match text {
-        Some(text) => identifiers_of(alloc, text),
-        None => Ok(Idents::new(alloc)),
-    }
-}
-
-// The identifiers between the dots, in a list with room for no more.
-fn identifiers_of(alloc: Global, text: &str) -> Result<Idents, VersionFault>
-    ensures { Gives (AllByRecursion IdentIsWithin) result (map identifier_of (slice_split (λ b. b == dot) text.now)) }
-{
-    let mut all = Idents::with_room(alloc, text.split('.').count())?;
-    let mut rest = Some(text);
-    'pieces: while let Some(more) = rest {
-        let (piece, behind) = cut(more, '.');
-        let next = identifier(alloc, piece)?;
-        all.push(next)?;
-        rest = behind;
-    }
-    Ok(all)
-}
-
-fn identifier(alloc: Global, text: &str) -> Result<Ident, VersionFault>
-    ensures { Gives IdentIsWithin result (identifier_of text.now) }
-{
-    if is_numeral(text) {
-        let number = numeral_of(text)?;
-        Ok(Ident::Number(number))
-    } else {
-        let word = Text::copy_of(alloc, text)?;
-        Ok(Ident::Word(word))
-    }
 }
 
 fn build_text(alloc: Global, text: Option<&str>) -> Result<Text, NoMemory>

@@ -1,12 +1,12 @@
-ghost use Rattle.std.specs.Prelude.{◌≡◌, ◌++◌, ◌∷◌, [], OnOk, OnErr, map};
+ghost use Rattle.std.specs.Prelude.{◌≡◌, ◌++◌, ◌∷◌, [], OnOk, OnErr};
 ghost use Rattle.vx_spec.specs.Numerals.{numeral_text};
-ghost use Rattle.npm_scheme.specs.Version.{dot, hyphen};
-ghost use Rattle.npm_scheme.specs.Spelling.{tail};
-ghost use Rattle.npm_scheme.specs.Writing.{identifier_text, normal, numbers_text};
-ghost use Rattle.npm_scheme.specs.Steps.Begun.{IsBegunBy, sign_before};
+ghost use Rattle.vx_order.specs.Dotted.{dot};
+ghost use Rattle.vx_order.specs.Cuts.{IsBegunBy};
+ghost use Rattle.npm_scheme.specs.Writing.{normal, numbers_text};
 
 use crate::version::NpmVersion;
-use vx_scheme::{Ident, NoMemory, Text};
+use vx_order::push_pre_release;
+use vx_scheme::{NoMemory, Text};
 
 /// Appends the normal text. A refused call leaves the text as it was.
 pub(crate) fn write(version: &NpmVersion, out: &mut Text) -> Result<(), NoMemory>
@@ -26,7 +26,7 @@ fn push_version(out: &mut Text, version: &NpmVersion) -> Result<(), NoMemory>
     ensures begun { IsBegunBy out.old out.new }
 {
     push_core(out, version)?;
-    push_pre(out, version.pre.as_slice())
+    push_pre_release(out, version.pre.as_slice())
 }
 
 // The three numbers.
@@ -45,37 +45,4 @@ fn push_dotted(out: &mut Text, number: u128) -> Result<(), NoMemory>
 {
     out.push_number(number)?;
     out.push_str(".")
-}
-
-fn push_pre(out: &mut Text, pre: &[Ident]) -> Result<(), NoMemory>
-    ensures ok { OnOk result (out.new ≡ out.old ++ tail hyphen (map identifier_text pre.now)) }
-    ensures begun { IsBegunBy out.old out.new }
-{
-    for (i, identifier) in pre.iter().enumerate() {
-        push_sign(out, i)?;
-        push_identifier(out, identifier)?;
-    }
-    Ok(())
-}
-
-// What stands before the identifier at a place.
-fn push_sign(out: &mut Text, i: usize) -> Result<(), NoMemory>
-    ensures ok { OnOk result (out.new ≡ out.old ++ sign_before i ∷ []) }
-    ensures err { OnErr result (out.new ≡ out.old) }
-{
-    if i == 0 {
-        out.push_str("-")
-    } else {
-        out.push_str(".")
-    }
-}
-
-fn push_identifier(out: &mut Text, identifier: &Ident) -> Result<(), NoMemory>
-    ensures ok { OnOk result (out.new ≡ out.old ++ identifier_text identifier.now) }
-    ensures err { OnErr result (out.new ≡ out.old) }
-{
-    match identifier {
-        Ident::Number(number) => out.push_number(*number),
-        Ident::Word(word) => out.push_str(word.as_str()),
-    }
 }

@@ -1,28 +1,19 @@
 -- The text of a version after NuGet's page "Package versioning", "Version basics", "Where NuGetVersion diverges from Semantic
 -- Versioning" and "Normalized version numbers": the text is its parts, joined by their signs; each part has its form; and the
 -- version has their values.
-use Rattle.std.specs.Prelude.{◌≡◌, ℕ, nat_lt, true, List, [], ◌∷◌, ◌++◌, length, map, if◌then◌else◌}
+use Rattle.std.specs.Prelude.{◌≡◌, ℕ, nat_lt, true, List, ◌++◌, length, map}
 use Rattle.std.specs.List.{list_all, join_with_byte}
 use Rattle.vx_spec.specs.Numerals.{is_numeral, value}
 use Rattle.vx_spec.specs.Places.{endless}
-use Rattle.vx_scheme.specs.declared.ident.Ident.{Ident}
-use Rattle.vx_scheme.specs.declared.ident.Ident.TheVariants.{Number, Word}
-use Rattle.nuget_scheme.specs.Version.{Fields, dot, hyphen, is_label}
+use Rattle.vx_order.specs.Dotted.{dot, hyphen, plus, tail}
+use Rattle.vx_order.specs.Identifiers.{identifier_of, is_identifier}
+use Rattle.nuget_scheme.specs.Version.{Fields}
 
 -- the parts of a version's text; none where the labels or the build are left out
 pub record Parts : Type 0 where
   pub numbers : List (List ℕ)
   pub labels : List (List ℕ)
   pub build : List (List ℕ)
-
--- the byte '+'
-abbrev pub plus : ℕ
-plus = 43
-
--- parts joined by '.', behind their mark, where there are any
-abbrev pub tail : ℕ → List (List ℕ) → List ℕ
-tail mark [] = []
-tail mark (first ∷ more) = mark ∷ join_with_byte dot (first ∷ more)
 
 -- the whole text: the numbers joined by '.', '-' and the labels, '+' and the build
 abbrev pub whole : Parts → List ℕ
@@ -35,16 +26,13 @@ pub record AreVersionParts (p : Parts) : Type 0 where
   pub few : nat_lt (length p.numbers) 5 ≡ true
   -- "Normalized version numbers": leading zeros are accepted
   pub numerals : list_all is_numeral p.numbers ≡ true
-  pub labels : list_all is_label p.labels ≡ true
-  pub build : list_all is_label p.build ≡ true
+  -- labels, and what stands between the dots of a build, hold only ASCII letters, digits and '-'
+  pub labels : list_all is_identifier p.labels ≡ true
+  pub build : list_all is_identifier p.build ≡ true
 
 -- the number at a place, counted from 0; "all others are optional, and are equivalent to zero"
 abbrev pub number_at : ℕ → List (List ℕ) → ℕ
 number_at place numbers = endless 0 (map value numbers) place
-
--- digits alone stand for their number, and any other label for itself
-abbrev pub label_of : List ℕ → Ident
-label_of text = if is_numeral text then Number (value text) else Word text
 
 -- the version that the parts stand for; "Normalized version numbers": the build is removed
 abbrev pub version_of : Parts → Fields
@@ -53,7 +41,7 @@ version_of p = record {
   minor = number_at 1 p.numbers;
   patch = number_at 2 p.numbers;
   fourth = number_at 3 p.numbers;
-  labels = map label_of p.labels;
+  labels = map identifier_of p.labels;
 }
 
 -- The text spells the version, with numerals of any length.

@@ -1,12 +1,13 @@
-ghost use Rattle.std.specs.Prelude.{◌≡◌, ◌++◌, ◌∷◌, [], OnOk, OnErr, map};
+ghost use Rattle.std.specs.Prelude.{◌≡◌, ◌++◌, ◌∷◌, OnOk, OnErr};
 ghost use Rattle.vx_spec.specs.Numerals.{numeral_text};
-ghost use Rattle.nuget_scheme.specs.Version.{dot, hyphen};
-ghost use Rattle.nuget_scheme.specs.Spelling.{tail};
-ghost use Rattle.nuget_scheme.specs.Writing.{label_text, normal, numbers_text};
-ghost use Rattle.nuget_scheme.specs.Steps.Begun.{IsBegunBy, fourth_text, sign_before};
+ghost use Rattle.vx_order.specs.Dotted.{dot};
+ghost use Rattle.vx_order.specs.Cuts.{IsBegunBy};
+ghost use Rattle.nuget_scheme.specs.Writing.{normal, numbers_text};
+ghost use Rattle.nuget_scheme.specs.Steps.Fourth.{fourth_text};
 
 use crate::version::NugetVersion;
-use vx_scheme::{Ident, NoMemory, Text};
+use vx_order::push_pre_release;
+use vx_scheme::{NoMemory, Text};
 
 /// Appends the normal text. A refused call leaves the text as it was.
 pub(crate) fn write(version: &NugetVersion, out: &mut Text) -> Result<(), NoMemory>
@@ -26,7 +27,7 @@ fn push_version(out: &mut Text, version: &NugetVersion) -> Result<(), NoMemory>
     ensures begun { IsBegunBy out.old out.new }
 {
     push_numbers(out, version)?;
-    push_labels(out, version.labels.as_slice())
+    push_pre_release(out, version.labels.as_slice())
 }
 
 // The three numbers, and the fourth where it is not 0.
@@ -56,37 +57,4 @@ fn push_number_behind(out: &mut Text, number: u128) -> Result<(), NoMemory>
 {
     out.push_str(".")?;
     out.push_number(number)
-}
-
-fn push_labels(out: &mut Text, labels: &[Ident]) -> Result<(), NoMemory>
-    ensures ok { OnOk result (out.new ≡ out.old ++ tail hyphen (map label_text labels.now)) }
-    ensures begun { IsBegunBy out.old out.new }
-{
-    for (i, label) in labels.iter().enumerate() {
-        push_sign(out, i)?;
-        push_label(out, label)?;
-    }
-    Ok(())
-}
-
-// What stands before the label at a place.
-fn push_sign(out: &mut Text, i: usize) -> Result<(), NoMemory>
-    ensures ok { OnOk result (out.new ≡ out.old ++ sign_before i ∷ []) }
-    ensures err { OnErr result (out.new ≡ out.old) }
-{
-    if i == 0 {
-        out.push_str("-")
-    } else {
-        out.push_str(".")
-    }
-}
-
-fn push_label(out: &mut Text, label: &Ident) -> Result<(), NoMemory>
-    ensures ok { OnOk result (out.new ≡ out.old ++ label_text label.now) }
-    ensures err { OnErr result (out.new ≡ out.old) }
-{
-    match label {
-        Ident::Number(number) => out.push_number(*number),
-        Ident::Word(word) => out.push_str(word.as_str()),
-    }
 }

@@ -168,7 +168,7 @@ refused_by_pairs text parts BadType written whole text_all h = absurd h
 refused_by_pairs text parts Name written whole text_all h = absurd h
 refused_by_pairs text parts (Escape at) written whole text_all h = absurd h
 refused_by_pairs text parts (NotText at) written whole text_all h = absurd h
-refused_by_pairs text parts (Qualifier at) written whole text_all h = absurd h
+refused_by_pairs text parts (Qualifier at) written whole text_all h = (parts, written, whole, text_all, h)
 refused_by_pairs text parts (DuplicateKey at) written whole text_all h = (parts, written, whole, text_all, h)
 refused_by_pairs text parts NoMemory written whole text_all h = tt
 

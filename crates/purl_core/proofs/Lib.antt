@@ -8,6 +8,7 @@ pub mod OneRefusal
 pub mod OneValue
 pub mod PartLaws
 pub mod Pieces
+pub mod Plain
 pub mod Printed
 pub mod Put
 pub mod Refused

@@ -1,14 +1,18 @@
 -- Putting a pair with a new key into ascending pairs keeps them ascending, and adds that pair.
-use Rattle.std.proofs.Common.{◌≡◌, ◌≢◌, ◌++◌, ◌↔◌, ℕ, suc, ◌+◌, true, false, List, [], ◌∷◌, take, drop, refl, sym, ap, ◌∙◌, inl, inr, Less, Equal, Greater, Ordering, arith}
+use Rattle.std.proofs.Common.{◌≡◌, ◌≢◌, ◌++◌, ◌↔◌, ℕ, suc, ◌+◌, ◌-◌, true, false, List, [], ◌∷◌, length, map, get_or, take, drop, refl, sym, ap, subst, ◌∙◌, inl, inr, Less, Equal, Greater, Ordering, arith}
 use Rattle.std.specs.List.{AllByRecursion, prefix_len}
 use Rattle.std.specs.Ordering.{nat_cmp, is_lt, ordering_reverse}
 use Rattle.std.specs.Cmp.Lexicographic.{slice_cmp}
+use Rattle.std.specs.Cmp.{tied_itself}
 use Rattle.std.proofs.lemmas.Bool.{cases_Bool, false≢true}
 use Rattle.std.proofs.lemmas.Cmp.{nat_list_cmp_total}
 use Rattle.std.proofs.lemmas.Map.Lookups.{exact_bytes}
-use Rattle.purl_core.specs.Value.{Ascending}
+use Rattle.purl_core.specs.declared.value.Pair.{Pair}
+use Rattle.purl_core.specs.Value.{Ascending, IsAboveLast, pair_view}
 use Rattle.purl_core.specs.Spelling.{Member, SameMap}
-use Rattle.purl_core.specs.Steps.Pairing.{is_before, put}
+use Rattle.purl_core.specs.Places.{HasKey}
+use Rattle.purl_core.specs.Steps.Pairing.{PutsPair, is_before, put}
+use Rattle.purl_core.proofs.Ascending.{all_below}
 
 less_if : (o : Ordering) → is_lt o ≡ true → o ≡ Less
 less_if Less e = refl
@@ -72,3 +76,43 @@ put_at x (y ∷ ys) = elim (cases_Bool (is_before y.0 x.0)) [
   | inl is ↦ rw (is, add_one (prefix_len (λ (y : List ℕ × List ℕ). is_before y.0 x.0) ys)) (ap (λ (r : List (List ℕ × List ℕ)). y ∷ r) (put_at x ys))
   | inr out ↦ rw out refl
 ]
+
+-- ---- a pair whose key is above the others
+
+put_last : (x : List ℕ × List ℕ) (ys : List (List ℕ × List ℕ)) → AllByRecursion (λ (y : List ℕ × List ℕ). slice_cmp nat_cmp y.0 x.0 ≡ Less) ys → put x ys ≡ ys ++ x ∷ []
+put_last x [] below = refl
+put_last x (y ∷ ys) below = let is : is_before y.0 x.0 ≡ true = ap is_lt below.0 in rw is (ap (λ (l : List (List ℕ × List ℕ)). y ∷ l) (put_last x ys below.1))
+
+not_among : (key : List ℕ) (ys : List (List ℕ × List ℕ)) → AllByRecursion (λ (y : List ℕ × List ℕ). slice_cmp nat_cmp y.0 key ≡ Less) ys → ¬ (HasKey key ys)
+not_among key [] below h = h
+not_among key (y ∷ ys) below (inl e) =
+    let q : Equal ≡ Less = sym (tied_itself nat_list_cmp_total key) ∙ subst (λ (k : List ℕ). slice_cmp nat_cmp k key ≡ Less) (sym e) below.0 in
+    cc (q)
+not_among key (y ∷ ys) below (inr h) = not_among key ys below.1 h
+
+pub puts_last : (pairs : List (List ℕ × List ℕ)) (x : List ℕ × List ℕ) → Ascending pairs → IsAboveLast pairs x.0 → PutsPair pairs (pairs ++ x ∷ []) x false
+puts_last pairs x up above = let below = all_below pairs x.0 up above in (not_among x.0 pairs below, sym (put_last x pairs below))
+
+no_end : (front : List (List ℕ × List ℕ)) (x : List ℕ × List ℕ) → [] ≡ front ++ x ∷ [] → ⊥
+no_end [] x e = cc (e)
+no_end (y ∷ front) x e = cc (e)
+
+one_less : (n : ℕ) → suc (suc n) - 1 ≡ suc (suc n - 1)
+one_less n = omega arith
+
+last_pair : (pairs : List Pair) (last : Pair) (front : List (List ℕ × List ℕ)) (x : List ℕ × List ℕ) → last ≡ get_or pairs (length pairs - 1) last
+    → map pair_view pairs ≡ front ++ x ∷ [] → pair_view last ≡ x
+last_pair [] last front x is e = absurd (no_end front x e)
+last_pair (p ∷ []) last [] x is e = let same : pair_view p ≡ x = cc (e) in ap pair_view is ∙ same
+last_pair (p ∷ []) last (y ∷ front) x is e = let none : [] ≡ front ++ x ∷ [] = cc (e) in absurd (no_end front x none)
+last_pair (p ∷ q ∷ pairs) last [] x is e = cc (e)
+last_pair (p ∷ q ∷ pairs) last (y ∷ front) x is e =
+    last_pair (q ∷ pairs) last front x (is ∙ ap (λ n. get_or (p ∷ q ∷ pairs) n last) (one_less (length pairs))) (cc (e))
+
+-- a key above that of the last pair
+pub above_last : (pairs : List Pair) (last : Pair) (key : List ℕ) → last ≡ get_or pairs (length pairs - 1) last → slice_cmp nat_cmp last.key key ≡ Less
+    → IsAboveLast (map pair_view pairs) key
+above_last pairs last key is less front x e = subst (λ (y : List ℕ × List ℕ). slice_cmp nat_cmp y.0 key ≡ Less) (last_pair pairs last front x is e) less
+
+pub above_none : (key : List ℕ) → IsAboveLast [] key
+above_none key front x e = absurd (no_end front x e)

@@ -1,6 +1,7 @@
 ghost use Rattle.std.specs.Prelude.{◌≡◌, ◌≢◌, ◌==◌, ◌<◌, ◌-◌, ◌↔◌, ℕ, length, slice_index, map, IsTrue, List, not, Option, Some, None, MatchOption};
 ghost use Rattle.std.specs.Option.{option_copied};
 ghost use Rattle.std.specs.List.{list_all, list_any};
+ghost use Rattle.vx_spec.specs.Marks.{IsLastCut};
 ghost use Rattle.purl_core.specs.Cuts.{IsVersionCut};
 ghost use Rattle.purl_core.specs.Grammar.{is_kind_byte, is_kind, IsEnded, HasScheme, HasType, HasSegment};
 ghost use Rattle.purl_core.specs.Steps.Cutting.{IsPurlCut};
@@ -88,12 +89,23 @@ pub(crate) struct Raw<'a> {
     pub subpath: Option<&'a [u8]>,
 }
 
+/// The bytes before the last mark, and those behind it. Most texts lack it, which a search in any order tells soonest.
+fn cut_last(text: &[u8], mark: u8) -> (&[u8], Option<&[u8]>)
+    ensures { IsLastCut mark text.now result.0.now (option_copied result.1) }
+{
+    if text.contains(&mark) {
+        last_cut(text, mark)
+    } else {
+        (text, None)
+    }
+}
+
 /// The body, the qualifiers and the subpath.
 fn cut_ends(text: &[u8]) -> (&[u8], Option<&[u8]>, Option<&[u8]>)
     ensures { IsEnded text.now result.0.now (option_copied result.1) (option_copied result.2) }
 {
-    let (front, subpath) = last_cut(text, b'#');
-    let (body, qualifiers) = last_cut(front, b'?');
+    let (front, subpath) = cut_last(text, b'#');
+    let (body, qualifiers) = cut_last(front, b'?');
     (body, qualifiers, subpath)
 }
 

@@ -1,4 +1,5 @@
 ghost use Rattle.std.specs.Prelude.{◌≡◌, ◌≢◌, ◌++◌, ◌↔◌, [], ◌∷◌, ℕ, List, IfOk, OnOk, IsTrue, MatchOption};
+ghost use Rattle.vx_spec.specs.Marks.{Lacks};
 ghost use Rattle.vx_text.specs.Escapes.{unescaped};
 ghost use Rattle.purl_core.specs.Value.{is_dots};
 ghost use Rattle.purl_core.specs.Places.{IsText, value_in, values};
@@ -11,16 +12,38 @@ use crate::placing::{Part, Walk};
 use crate::value::Segments;
 use percent_encoding::{DecodeError, percent_decode};
 use std::alloc::Global;
+use std::str;
 use vx_scheme::{NoMemory, Text};
+
+/// Whether there is no '%', so that the bytes stand for themselves. It takes no memory.
+pub(crate) fn is_plain(bytes: &[u8]) -> bool
+    ensures { IsTrue result → Lacks 37 bytes.now }
+{
+    !bytes.contains(&b'%')
+}
 
 /// The text that the bytes stand for, or `None` where they stand for no UTF-8. It takes one allocation.
 pub(crate) fn decode(alloc: Global, bytes: &[u8]) -> Result<Option<Text>, NoMemory>
     ensures { IfOk result (λ found. MatchOption found (¬ (IsText bytes.now)) (λ text. IsText bytes.now × (text ≡ unescaped bytes.now))) }
 {
+    if is_plain(bytes) {
+        return copy_plain(alloc, bytes);
+    }
     match percent_decode(bytes).decode_utf8(alloc) {
         Ok(plain) => Ok(Some(Text::from_string(plain.into_owned(alloc)?))),
         Err(DecodeError::Utf8(_)) => Ok(None),
         Err(DecodeError::OutOfMemory) => Err(NoMemory),
+    }
+}
+
+/// The same of bytes without a '%'.
+fn copy_plain(alloc: Global, bytes: &[u8]) -> Result<Option<Text>, NoMemory>
+    requires { Lacks 37 bytes.now }
+    ensures { IfOk result (λ found. MatchOption found (¬ (IsText bytes.now)) (λ text. IsText bytes.now × (text ≡ unescaped bytes.now))) }
+{
+    match str::from_utf8(bytes) {
+        Ok(text) => Ok(Some(Text::copy_of(alloc, text)?)),
+        Err(_) => Ok(None),
     }
 }
 

@@ -1,20 +1,22 @@
 ghost use Rattle.std.specs.Prelude.{◌≡◌, ◌+◌, ◌++◌, ◌<◌, ◌^◌, [], ◌∷◌, ℕ, List, map, IfOk, IsUtf8};
 ghost use Rattle.std.specs.List.{AllByRecursion};
+ghost use Rattle.vx_text.specs.Escapes.{IsWhole};
 ghost use Rattle.vx_text.specs.Folding.{lowered};
 ghost use Rattle.purl_core.specs.Grammar.{HasSegment, IsPurlWritten};
 ghost use Rattle.purl_core.specs.Value.{IsValid, Package, pair_view};
 ghost use Rattle.purl_core.specs.Spelling.{SpellsPurl};
-ghost use Rattle.purl_core.specs.Places.{AllPieces, AllText, AllWhole, components, pieces_of};
+ghost use Rattle.purl_core.specs.Places.{AllText, AllWhole, IsBrokenAt, components, pieces_of, values};
 ghost use Rattle.purl_core.specs.Reading.{IsPurlRead, OneRefusal, RefusedIsUnspelled};
 ghost use Rattle.purl_core.specs.Steps.Cutting.{parts};
+ghost use Rattle.purl_core.specs.Steps.Pairing.{IsPaired, MayPair};
 ghost use Rattle.purl_core.specs.Steps.Placing.{size};
-ghost use Rattle.purl_core.specs.Steps.Reads.{AreDecoded, AreTexts};
+ghost use Rattle.purl_core.specs.Steps.Reads.{AreDecoded, AreTexts, FindsFirst};
 
-use crate::checking::{first_bad, first_escape};
+use crate::checking::first_escape;
 use crate::cutting::{CutFault, Raw, cut_raw};
-use crate::decoding::{check_values, read_path, read_subpath, read_version};
+use crate::decoding::{is_plain, read_path, read_subpath, read_version};
 use crate::fault::PurlFault;
-use crate::pairing::read_pairs;
+use crate::pairing::{read_pairs, read_values};
 use crate::value::{Pairs, Purl, Segments};
 use std::alloc::Global;
 use std::str;
@@ -37,13 +39,24 @@ fn read_parts(alloc: Global, text: &str, raw: &Raw) -> Result<Purl, PurlFault>
     requires { IsPurlWritten text.now (parts raw.now) }
     ensures { IsPurlRead text.now result }
 {
-    if let Some(at) = first_escape(raw) {
+    if let Some(at) = broken_escape(text, raw) {
         return Err(PurlFault::Escape(at));
     }
     match read_texts(alloc, raw) {
-        Ok(texts) => read_qualifiers(alloc, text, raw, texts),
+        Ok((texts, found)) => read_qualifiers(alloc, text, raw, texts, found),
         Err(fault) => Err(fault),
     }
+}
+
+/// Where the first broken escape of all parts stands. A text without '%' has none.
+fn broken_escape(text: &str, raw: &Raw) -> Option<usize>
+    requires { IsPurlWritten text.now (parts raw.now) }
+    ensures { FindsFirst IsWhole IsBrokenAt (components (parts raw.now)) result }
+{
+    if is_plain(text.as_bytes()) {
+        return None;
+    }
+    first_escape(raw)
 }
 
 /// The texts of a path, a version and a subpath.
@@ -55,39 +68,57 @@ struct Texts {
     subpath: Segments,
 }
 
-/// The decoded texts; those of the values are decoded when they are put in order.
-fn read_texts(alloc: Global, raw: &Raw) -> Result<Texts, PurlFault>
+/// The decoded texts, and the qualifiers where their keys are in order as they stand. Other values are checked here, and
+/// decoded when they are put in order.
+fn read_texts(alloc: Global, raw: &Raw) -> Result<(Texts, Option<Pairs>), PurlFault>
     requires size { size (parts raw.now) + 1 < 2 ^ 64 }
     requires segment { HasSegment (parts raw.now).path }
     ensures { AreDecoded (parts raw.now) result }
 {
     let (namespace, name) = read_path(alloc, raw.path_walk())?;
     let version = read_version(alloc, raw.version_part())?;
-    check_values(alloc, raw.pieces_walk())?;
+    let found = read_values(alloc, raw.pieces_walk())?;
     let subpath = read_subpath(alloc, raw.subpath_walk())?;
-    Ok(Texts {
+    let texts = Texts {
         namespace,
         name,
         version,
         subpath,
-    })
+    };
+    Ok((texts, found))
 }
 
-fn read_qualifiers(alloc: Global, text: &str, raw: &Raw, texts: Texts) -> Result<Purl, PurlFault>
+fn read_qualifiers(
+    alloc: Global,
+    text: &str,
+    raw: &Raw,
+    texts: Texts,
+    found: Option<Pairs>,
+) -> Result<Purl, PurlFault>
     requires written { IsPurlWritten text.now (parts raw.now) }
     requires whole { AllWhole (components (parts raw.now)) }
     requires text { AllText (components (parts raw.now)) }
     requires texts { AreTexts (parts raw.now) texts }
+    requires found { MayPair (pieces_of (parts raw.now)) found }
     ensures { IsPurlRead text.now result }
 {
-    let pieces = raw.pieces_walk();
-    if let Some(at) = first_bad(pieces) {
-        return Err(PurlFault::Qualifier(at));
-    }
     let kind = low_kind(alloc, raw.kind)?;
-    match read_pairs(alloc, pieces) {
+    match pairs_of(alloc, raw, found) {
         Ok(qualifiers) => Ok(assemble(text, kind, texts, qualifiers)),
         Err(fault) => Err(fault),
+    }
+}
+
+/// The qualifiers that were found, or those of the pieces in any order.
+fn pairs_of(alloc: Global, raw: &Raw, found: Option<Pairs>) -> Result<Pairs, PurlFault>
+    requires size { size (parts raw.now) + 1 < 2 ^ 64 }
+    requires text { AllText (values (pieces_of (parts raw.now))) }
+    requires found { MayPair (pieces_of (parts raw.now)) found }
+    ensures { IsPaired (pieces_of (parts raw.now)) result }
+{
+    match found {
+        Some(pairs) => Ok(pairs),
+        None => read_pairs(alloc, raw.pieces_walk()),
     }
 }
 

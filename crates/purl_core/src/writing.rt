@@ -1,7 +1,8 @@
-ghost use Rattle.std.specs.Prelude.{◌≡◌, ◌++◌, [], ◌∷◌, map, codes, IfOk, OnOk, OnErr};
+ghost use Rattle.std.specs.Prelude.{◌≡◌, ◌++◌, [], ◌∷◌, map, codes, IfOk, IsTrue, OnOk, OnErr};
+ghost use Rattle.std.specs.List.{list_all};
 ghost use Rattle.std.specs.Option.{option_map};
 ghost use Rattle.vx_spec.specs.Marks.{marked};
-ghost use Rattle.vx_text.specs.Escapes.{escaped};
+ghost use Rattle.vx_text.specs.Escapes.{escaped, is_left};
 ghost use Rattle.purl_core.specs.Value.{IsValid, Package, pair_view};
 ghost use Rattle.purl_core.specs.Printed.{pair_text, purl_text};
 ghost use Rattle.purl_core.specs.Spelling.{SpellsPurl};
@@ -11,6 +12,7 @@ use crate::value::{Pair, Purl};
 use percent_encoding::{AsciiSet, NON_ALPHANUMERIC, ascii_set, utf8_percent_encode};
 use std::alloc::Global;
 use vx_scheme::{NoMemory, Text};
+use vx_text::is_left;
 
 /// Every ASCII byte but letters, digits and `. - _ ~ :`.
 const ESCAPED: AsciiSet = ascii_set!(
@@ -54,44 +56,40 @@ pub fn write(purl: &Purl, out: &mut Text) -> Result<(), NoMemory>
     }
 }
 
-/// How many bytes the text of a package URL has.
+/// How many bytes the text of a package URL has at most: each byte of its components may be escaped, into three.
 fn room(purl: &Purl) -> usize {
-    let mut room = purl.kind.len().saturating_add("pkg:".len());
-    room = room.saturating_add(segments_room(purl.namespace.as_slice()));
-    room = room.saturating_add(signed_room(&purl.name));
+    let mut bytes = purl.kind.len().saturating_add("pkg:".len());
+    bytes = bytes.saturating_add(segments_room(purl.namespace.as_slice()));
+    bytes = bytes.saturating_add(signed_room(&purl.name));
     if let Some(version) = &purl.version {
-        room = room.saturating_add(signed_room(version));
+        bytes = bytes.saturating_add(signed_room(version));
     }
-    room = room.saturating_add(pairs_room(purl.qualifiers.as_slice()));
-    room.saturating_add(segments_room(purl.subpath.as_slice()))
+    bytes = bytes.saturating_add(pairs_room(purl.qualifiers.as_slice()));
+    bytes.saturating_add(segments_room(purl.subpath.as_slice()))
 }
 
 fn segments_room(segments: &[Text]) -> usize {
-    let mut room: usize = 0;
+    let mut bytes: usize = 0;
     for segment in segments {
-        room = room.saturating_add(signed_room(segment));
+        bytes = bytes.saturating_add(signed_room(segment));
     }
-    room
+    bytes
 }
 
 fn pairs_room(pairs: &[Pair]) -> usize {
-    let mut room: usize = 0;
+    let mut bytes: usize = 0;
     for pair in pairs {
-        room = room
+        bytes = bytes
             .saturating_add(pair.key.len())
             .saturating_add(1)
             .saturating_add(signed_room(&pair.value));
     }
-    room
+    bytes
 }
 
-/// How many bytes a sign and the escaped text have.
+/// The same of a sign and an escaped text.
 fn signed_room(text: &Text) -> usize {
-    let mut room: usize = 1;
-    for piece in utf8_percent_encode(text.as_str(), ESCAPED) {
-        room = room.saturating_add(piece.len());
-    }
-    room
+    text.len().saturating_mul(3).saturating_add(1)
 }
 
 fn push_purl(out: &mut Text, purl: &Purl) -> Result<(), NoMemory>
@@ -167,14 +165,27 @@ fn push_signed(out: &mut Text, sign: &str, text: &str) -> Result<(), NoMemory>
     push_escaped(out, text)
 }
 
+/// Appends the escaped text, as a whole where it stands for itself.
 fn push_escaped(out: &mut Text, text: &str) -> Result<(), NoMemory>
     ensures ok { OnOk result (out.new ≡ out.old ++ escaped text.now) }
     ensures err { OnErr result (IsGrown out.old out.new) }
 {
+    if is_left(text.as_bytes()) {
+        return push_left(out, text);
+    }
     for piece in utf8_percent_encode(text, ESCAPED) {
         out.push_str(piece)?;
     }
     Ok(())
+}
+
+/// Appends a text that stands for itself.
+fn push_left(out: &mut Text, text: &str) -> Result<(), NoMemory>
+    requires { IsTrue (list_all is_left text.now) }
+    ensures ok { OnOk result (out.new ≡ out.old ++ escaped text.now) }
+    ensures err { OnErr result (IsGrown out.old out.new) }
+{
+    out.push_str(text)
 }
 
 /// The law that the printed text spells the package URL, and no two have one text.

@@ -1,5 +1,5 @@
 -- The value of a key among pairs, looked for from the front; and one value a key among ascending pairs.
-use Rattle.std.proofs.Common.{◌≡◌, ◌≢◌, ◌<◌, ◌≤◌, ◌+◌, ◌++◌, ◌∙◌, ◌⊎◌, ℕ, zero, suc, List, [], ◌∷◌, length, drop, get_or, map, refl, sym, ap, subst, arith, inl, inr, Option, Some, None, IfSome, IfNone, MatchOption, Bor, Less, codes}
+use Rattle.std.proofs.Common.{◌≡◌, ◌≢◌, ◌<◌, ◌≤◌, ◌+◌, ◌++◌, ◌∙◌, ℕ, zero, suc, List, [], ◌∷◌, length, drop, get_or, map, sym, ap, subst, arith, inl, inr, Option, Some, None, IfSome, IfNone, MatchOption, Bor, Less, codes}
 use Rattle.std.proofs.lemmas.List.{drop_all, drop_more}
 use Rattle.std.specs.List.{AllByRecursion}
 use Rattle.std.specs.Ordering.{nat_cmp}

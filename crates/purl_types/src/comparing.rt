@@ -11,7 +11,7 @@ use vx_scheme::Text;
 use vx_text::same_folded;
 
 /// Whether two texts spell package URLs that mean the same package. The refusal is that of the first text; only where it
-/// has none, that of the second.
+/// has none, that of the second. One text given twice is read once.
 pub fn same(alloc: Global, a: &str, b: &str) -> Result<bool, PurlFault>
     ensures { IsComparedAs a.now b.now result }
 {
@@ -19,6 +19,9 @@ pub fn same(alloc: Global, a: &str, b: &str) -> Result<bool, PurlFault>
         Ok(first) => first,
         Err(fault) => return Err(fault),
     };
+    if a == b {
+        return Ok(true);
+    }
     match read(alloc, b) {
         Ok(second) => Ok(is_same(&first, &second)),
         Err(fault) => Err(fault),

@@ -1,4 +1,3 @@
 pub mod Bytes
 pub mod PastLaws
 pub mod ReleaseLaws
-pub mod TokenLaws

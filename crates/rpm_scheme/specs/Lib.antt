@@ -3,4 +3,3 @@ pub mod Order
 pub mod Spelling
 pub mod Writing
 pub mod Laws
-pub mod Steps

@@ -1,5 +1,5 @@
 -- The order of versions after rpm-version(7): by the first place at which the keys of two versions differ.
-use Rattle.std.specs.Prelude.{ℕ, List, [], ◌∷◌, Option, Some, None}
+use Rattle.std.specs.Prelude.{List, [], ◌∷◌, Option, Some, None}
 use Rattle.std.specs.Cmp.{IsTotalOrder, on_total}
 use Rattle.std.specs.declared.cmp.Ordering.{Ordering}
 use Rattle.vx_spec.specs.Places.{ComparesAs, endless}
@@ -8,11 +8,7 @@ use Rattle.vx_spec.proofs.RowLaws.{rows_total}
 use Rattle.vx_order.specs.declared.letter.Letter.{Letter}
 use Rattle.vx_order.specs.Letters.{letters_cmp}
 use Rattle.vx_order.proofs.LetterLaws.{letters_total}
-use Rattle.rpm_scheme.specs.Version.{Fields, end_rank, number_rank}
-
--- a number as a letter
-abbrev pub count_letter : ℕ → Letter
-count_letter number = record { rank = number_rank; number = number; text = [] }
+use Rattle.rpm_scheme.specs.Version.{Fields, count_letter, end_rank}
 
 -- no letters where there is no release; else a letter above the end stands before those of the release, so that no release
 -- is below any

@@ -1,12 +1,11 @@
 -- A version after rpm-version(7): its fields, with numbers of any size and texts as their bytes; the letters of a part of
 -- its text; the version without its release; and the limit of numerals.
-use Rattle.std.specs.Prelude.{◌≡◌, ◌≢◌, ℕ, zero, suc, ◌==◌, ◌<◌, ◌^◌, not, Bool, if◌then◌else◌, List, [], ◌∷◌, ◌++◌, length, Option, Some, None}
-use Rattle.std.specs.Char.{is_ascii_alphabetic, is_ascii_digit}
+use Rattle.std.specs.Prelude.{◌≡◌, ◌≢◌, ℕ, ◌==◌, ◌<◌, ◌^◌, not, Bool, if◌then◌else◌, List, [], ◌∷◌, Option, Some, None}
 use Rattle.std.specs.List.{AllByRecursion}
-use Rattle.vx_spec.specs.Numerals.{value}
-use Rattle.vx_spec.specs.Runs.{run, past}
+use Rattle.vx_spec.specs.Runs.{run}
 use Rattle.vx_text.specs.EpochParts.{hyphen}
 use Rattle.vx_order.specs.declared.letter.Letter.{Letter}
+use Rattle.vx_order.specs.Scanning.{behind_token, scanned, token_entries}
 
 -- the fields: the text as it is written, the epoch, the letters of the version, and those of the release where there is one
 pub record Fields : Type 0 where
@@ -39,9 +38,9 @@ word_rank = 3
 abbrev pub number_rank : ℕ
 number_rank = 4
 
--- a run of digits, by its value
-abbrev pub number_letter : List ℕ → Letter
-number_letter digits = record { rank = number_rank; number = value digits; text = [] }
+-- a number, as that of a run of digits
+abbrev pub count_letter : ℕ → Letter
+count_letter number = record { rank = number_rank; number = number; text = [] }
 
 -- a run of letters, by its bytes
 abbrev pub word_letter : List ℕ → Letter
@@ -55,33 +54,13 @@ sign_letter rank = record { rank = rank; number = 0; text = [] }
 abbrev pub sign_letters : ℕ → List Letter
 sign_letters b = if b == tilde then sign_letter tilde_rank ∷ [] else (if b == caret then sign_letter caret_rank ∷ [] else [])
 
--- the letter of the token at the front of a part, each run as long as it can be; none where a byte stands there that parts
--- tokens
+-- the letter of the token at the front of a part; none where a byte stands there that parts tokens
 abbrev pub first_letters : List ℕ → List Letter
-first_letters [] = []
-first_letters (b ∷ part) =
-    if is_ascii_digit b
-    then number_letter (run is_ascii_digit (b ∷ part)) ∷ []
-    else (if is_ascii_alphabetic b then word_letter (run is_ascii_alphabetic (b ∷ part)) ∷ [] else sign_letters b)
+first_letters part = token_entries count_letter word_letter sign_letters part
 
--- what stands behind that token or byte
-abbrev pub behind_first : List ℕ → List ℕ
-behind_first [] = []
-behind_first (b ∷ part) =
-    if is_ascii_digit b
-    then past is_ascii_digit (b ∷ part)
-    else (if is_ascii_alphabetic b then past is_ascii_alphabetic (b ∷ part) else part)
-
--- A part is read as such tokens and bytes, one behind the other to its end. Each has a byte at least, so that a part has no
--- more of them than bytes.
-abbrev pub letters_in : ℕ → List ℕ → List Letter
-letters_in zero part = []
-letters_in (suc most) [] = []
-letters_in (suc most) (b ∷ part) = first_letters (b ∷ part) ++ letters_in most (behind_first (b ∷ part))
-
--- the letters of a part
+-- the letters of a part, token by token
 abbrev pub letters_of : List ℕ → List Letter
-letters_of part = letters_in (length part) part
+letters_of part = scanned first_letters behind_token part
 
 -- a byte other than '-'
 abbrev pub is_no_hyphen : ℕ → Bool

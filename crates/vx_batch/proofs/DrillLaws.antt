@@ -1,9 +1,8 @@
 -- The lines of a drill are the lines of their bytes, and a drill's answers are those of `batch`.
-use Rattle.std.proofs.Common.{◌≡◌, ◌<◌, ◌≤◌, ◌+◌, ◌%◌, ◌==◌, ◌++◌, ◌&&◌, ◌∙◌, ℕ, zero, suc, List, [], ◌∷◌, Bool, true, false, not, if◌then◌else◌, cond, codes, length, arith, refl, sym, ap, subst, add-one, length-append}
-use Rattle.std.specs.List.{AllByRecursion, AllZip, count_by, list_all}
+use Rattle.std.proofs.Common.{◌≡◌, ◌+◌, ◌%◌, ◌==◌, ◌++◌, ◌&&◌, ◌∙◌, ℕ, zero, suc, List, [], ◌∷◌, Bool, true, false, not, if◌then◌else◌, cond, codes, length, arith, refl, sym, ap, subst, add-one, length-append}
+use Rattle.std.specs.List.{AllByRecursion, count_by, list_all}
 use Rattle.std.specs.Char.{is_ascii_digit}
 use Rattle.std.proofs.lemmas.Bool.{and_parts}
-use Rattle.std.proofs.lemmas.List.Folds.{list_all-append}
 use Rattle.std.proofs.lemmas.List.Sums.{sum_by-cons, sum_by_push}
 use Rattle.vx_spec.specs.Marks.{Lacks}
 use Rattle.vx_spec.specs.Numerals.{numeral_text}

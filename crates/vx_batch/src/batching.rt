@@ -1,13 +1,14 @@
-ghost use Rattle.std.specs.Prelude.{◌≡◌, ◌≢◌, ◌<◌, ◌≤◌, ◌++◌, IfOk};
+ghost use Rattle.std.specs.Prelude.{◌≡◌, ◌≢◌, ◌<◌, ◌≤◌};
 ghost use Rattle.vx_lines.specs.Output.{Ran};
 ghost use Rattle.vx_lines.specs.Outside.{FailsAtLast, Rose, Succeeds};
 ghost use Rattle.vx_batch.specs.Answers.{IsLineAnswer};
 
-use crate::answering::{answer_to_line, too_long};
-use crate::reply::Answer;
+use crate::printing::push_reply;
+use crate::reply::{LineFault, Reply};
+use crate::replying::line_reply;
 use std::alloc::Global;
 use vx_lines::{Answering, LoopEnd, MOST_BYTES, MOST_INPUT, MOST_READ, Sink, Source, answer_lines};
-use vx_scheme::NoMemory;
+use vx_scheme::{NoMemory, Text};
 
 /// The answers to lines, each by its own fields.
 #[derive(Debug, Clone, Copy)]
@@ -19,24 +20,15 @@ impl Answering for LineAnswers {
 
     ghost says = { λ _. IsLineAnswer MOST_BYTES };
 
-    fn answer(&self, line: &[u8], text: &mut Vec<u8>) -> Result<bool, NoMemory> {
-        let answer = answer_to_line(*text.allocator(), line)?;
-        push_answer(&answer, text)
+    fn answer(&self, line: &[u8], text: &mut Text) -> Result<bool, NoMemory> {
+        let reply = line_reply(text.alloc(), line)?;
+        push_reply(text, &reply)?;
+        Ok(reply.is_accepted())
     }
 
-    fn answer_long(&self, text: &mut Vec<u8>) -> Result<bool, NoMemory> {
-        let answer = too_long(*text.allocator())?;
-        push_answer(&answer, text)
-    }
-}
-
-// Appends the answer line, and answers whether it is an accepted line's.
-fn push_answer(answer: &Answer, text: &mut Vec<u8>) -> Result<bool, NoMemory>
-    ensures { IfOk result (λ ok. (ok ≡ answer.now.ok) × (text.new.items ≡ text.old.items ++ answer.now.text)) }
-{
-    match text.extend_from_slice(answer.text.as_str().as_bytes()) {
-        Ok(()) => Ok(answer.ok),
-        Err(_) => Err(NoMemory),
+    fn answer_long(&self, text: &mut Text) -> Result<bool, NoMemory> {
+        push_reply(text, &Reply::Fault(LineFault::TooLong))?;
+        Ok(false)
     }
 }
 

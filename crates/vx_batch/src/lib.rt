@@ -3,20 +3,21 @@
 
 mod answering;
 mod batching;
-mod check_answers;
+mod check_replies;
 mod drill_lines;
 mod drilling;
 mod fields;
 mod laws;
 mod names;
-mod purl_answers;
-mod refusing;
+mod printing;
+mod purl_replies;
 mod reply;
+mod replying;
 mod request;
 mod row;
 #[cfg(test)]
 mod tests;
-mod vers_answers;
+mod vers_replies;
 
 pub use answering::{answer, answer_to_line, answer_to_request, answer_to_row, too_long};
 pub use batching::batch;

@@ -11,7 +11,8 @@ use Rattle.vx_spec.specs.Ascending.{IsAscending}
 use Rattle.vx_line.specs.Pieces.{cuts_below, changes_of}
 use Rattle.vx_line.proofs.ChangeLaws.{All-changes, changes_in_order, changes_mean}
 use Rattle.vx_interval.specs.declared.line.Line.{Line}
-use Rattle.vx_interval.specs.Steps.Lines.{IsLineOf}
+use Rattle.vx_interval.specs.declared.bounds.Joined.{Joined}
+use Rattle.vx_interval.specs.Steps.Lines.{IsLineOf, AreChangesOf}
 use Rattle.vx_line.specs.Line.{IsPlace, IsLevel, is_in, judged}
 use Rattle.vx_line.specs.Least.{first_least}
 use Rattle.vx_line.proofs.Judging.{Depends, each, judged_same, judged_means, judged_in_order, All-judged}
@@ -102,6 +103,11 @@ module _ {V : Type 0} {order : V → V → Ordering} (o : IsTotalOrder order) wh
         },
         rise,
       )
+
+  pub joined_by : (bounds : List (List (List (Span V)))) (joined : Joined V) → AreChangesOf order (made_cuts bounds) (λ below. bounds_at below bounds) joined → IsJoined order bounds (spans_of joined.starts_in joined.cuts) × IsAscending (cut_cmp order) joined.cuts
+  joined_by bounds joined a =
+      let j = changes_joined bounds a.line joined.cuts a.is a.cuts in
+      (subst (λ (starts : Bool). IsJoined order bounds (spans_of starts joined.cuts)) (sym a.starts) j.0, j.1)
 
   -- ---- each piece between neighbouring cuts of the line, judged
   module _ (bounds : List (List (List (Span V)))) (line : List (Cut V)) (t : IsLine order (made_cuts bounds) line) where

@@ -10,14 +10,15 @@ use Rattle.vx_scheme.specs.declared.span.Span.{Span}
 use Rattle.vx_scheme.specs.Cuts.{cut_cmp, cut_list, cuts_of, is_absent, is_over, is_under, span_at}
 use Rattle.vx_line.specs.Line.{IsPlace, join_by}
 use Rattle.vx_line.specs.Least.{first_least, least_of_both, unite}
-use Rattle.vx_line.specs.Pieces.{cuts_below, pieces_at}
+use Rattle.vx_line.specs.Pieces.{cuts_below, pieces_at, changes_of}
 use Rattle.vx_line.specs.Steps.Joins.{join_right, join_pieces}
 use Rattle.vx_line.proofs.LeastLaws.{unite_means, unite_in_order, first_least-append}
 use Rattle.vx_line.proofs.JoinLaws.{cuts_joined, few_joined, join_means}
+use Rattle.vx_interval.specs.declared.bounds.Joined.{Joined}
 use Rattle.vx_interval.specs.declared.line.Line.{Line}
 use Rattle.vx_interval.specs.Places.{AtEachPlace}
 use Rattle.vx_interval.specs.Joined.{mark_of, IsLine, terms_cuts, made_cuts}
-use Rattle.vx_interval.specs.Steps.Lines.{IsLineOf, has_item, all_cuts, with_cuts, all_at, ends_of, span_pieces}
+use Rattle.vx_interval.specs.Steps.Lines.{IsLineOf, AreChangesOf, has_item, all_cuts, with_cuts, all_at, ends_of, span_pieces}
 use Rattle.vx_interval.proofs.SpanLaws.{cut_total}
 
 join_by-comm : (both a b : Bool) → join_by both a b ≡ join_by both b a
@@ -123,6 +124,11 @@ module _ {V : Type 0} {order : V → V → Ordering} (o : IsTotalOrder order) wh
       line_same _ _ _ (λ below. span_at below span) line refl (λ below place. λ i. join_by true (over_is below span.lower i) (under_is below span.upper i))
       (line_joined true (cut_list span.lower) (cut_list span.upper) (λ below. pieces_at below (is_absent span.lower) (ends_of span.lower true)) (λ below. pieces_at below true (ends_of span.upper false)) a b line
       (line_above (is_absent span.lower) true span.lower a refl refl) (line_above true false span.upper b refl refl) (s ∙ starts_and (is_absent span.lower)) p)
+
+  pub span_changes : (span : Span V) (joined : Joined V) → joined.starts_in ≡ is_absent span.lower → joined.cuts ≡ changes_of (is_absent span.lower) (span_pieces order span) → AreChangesOf order (cut_list span.lower ++ cut_list span.upper) (λ below. span_at below span) joined
+  span_changes span joined starts_are cuts_are =
+      let line : Line V = record { starts = is_absent span.lower; pieces = span_pieces order span } in
+      record { line = line; is = span_line span line refl refl; starts = starts_are; cuts = cuts_are }
 
 -- ---- lists of parts
 module _ {V X : Type 0} (cuts : X → List (Cut V)) where

@@ -7,7 +7,7 @@ ghost use Rattle.vx_interval.specs.Joined.{made_cuts, IsJoined};
 use crate::compares::{Compares, Counted};
 use crate::counter::Steps;
 use crate::merging::Cuts;
-use crate::part::join_parts;
+use crate::part::join_changes;
 use crate::set::Set;
 use std::alloc::Global;
 use std::marker::Brand;
@@ -39,10 +39,8 @@ pub fn join_bounds<C: Compares<L>, L: Ledger>(
     ensures cost { steps.new ≤ steps.old +
         length (made_cuts bounds) * (3 * log2_up (length (made_cuts bounds)) + 1) }
 {
-    let line = join_parts::<Alternative<C::Item>, C, L>(alloc, false, bounds, steps)?;
-    let starts_in = line.starts;
-    let cuts = line.changes(alloc)?;
-    Ok(Joined { starts_in, cuts })
+    let joined = join_changes::<Alternative<C::Item>, C, L>(alloc, false, bounds, steps)?;
+    Ok(joined)
 }
 
 /// `join_bounds` on the versions of a scheme, with a counter of its own.

@@ -1,4 +1,4 @@
-ghost use Rattle.std.specs.Prelude.{◌≡◌, ◌<◌, ◌≤◌, ◌+◌, ◌∷◌, ◌++◌, [], Some, length, IfOk, MatchOption};
+ghost use Rattle.std.specs.Prelude.{◌≡◌, ◌<◌, ◌≤◌, ◌+◌, ◌∷◌, ◌++◌, [], false, Some, length, IfOk, MatchOption};
 ghost use Rattle.vx_scheme.specs.Cuts.{cut_cmp, cut_list, is_absent};
 ghost use Rattle.vx_line.specs.Line.{join_by};
 ghost use Rattle.vx_line.specs.Least.{least_of};
@@ -8,6 +8,7 @@ ghost use Rattle.vx_line.specs.Steps.Joins.{join_right, join_pieces};
 ghost use Rattle.vx_interval.specs.Joined.{mark_of};
 ghost use Rattle.vx_interval.specs.Steps.Lines.{piece_cmp, span_pieces};
 
+use crate::bounds::Joined;
 use crate::compares::{Compares, compare_cuts};
 use crate::counter::Steps;
 use crate::merging::{Cuts, join_values, push_change, take_first};
@@ -129,6 +130,59 @@ fn pieces_between<C: Compares<L>, L: Ledger>(
         }
     }
     Ok(pieces)
+}
+
+/// The cuts of a span at which it begins and ends, which are none where they do not rise.
+pub(crate) fn changes_of_span<C: Compares<L>, L: Ledger>(
+    alloc: Global,
+    span: Span<C::Item>,
+    steps: &mut Steps<L>,
+) -> Result<Joined<C::Item>, NoMemory>
+    ensures starts { IfOk result (λ joined. joined.starts_in ≡ is_absent span.lower) }
+    ensures cuts { IfOk result (λ joined. joined.cuts ≡ changes_of (is_absent span.lower) (span_pieces C.order span)) }
+    ensures cost { steps.new ≤ steps.old + length (cut_list span.lower ++ cut_list span.upper) }
+{
+    let Span { lower, upper } = span;
+    match (lower, upper) {
+        (None, None) => Ok(Joined {
+            starts_in: true,
+            cuts: Cuts::new(alloc),
+        }),
+        (None, Some(end)) => Ok(Joined {
+            starts_in: true,
+            cuts: Cuts::one(alloc, end)?,
+        }),
+        (Some(start), None) => Ok(Joined {
+            starts_in: false,
+            cuts: Cuts::one(alloc, start)?,
+        }),
+        (Some(start), Some(end)) => Ok(Joined {
+            starts_in: false,
+            cuts: changes_between::<C, L>(alloc, start, end, steps)?,
+        }),
+    }
+}
+
+/// The cuts of a span that has both, where they rise.
+fn changes_between<C: Compares<L>, L: Ledger>(
+    alloc: Global,
+    start: Cut<C::Item>,
+    end: Cut<C::Item>,
+    steps: &mut Steps<L>,
+) -> Result<Cuts<C::Item>, NoMemory>
+    ensures cuts { IfOk result (λ cuts.
+        cuts ≡ changes_of false (span_pieces C.order (record { lower = Some start; upper = Some end }))) }
+    ensures cost { steps.new ≤ steps.old + 1 }
+{
+    match compare_cuts::<C, L>(&start, &end, steps) {
+        Ordering::Less => {
+            let mut cuts = Cuts::with_room(alloc, 2)?;
+            cuts.push(start)?;
+            cuts.push(end)?;
+            Ok(cuts)
+        }
+        Ordering::Equal | Ordering::Greater => Ok(Cuts::new(alloc)),
+    }
 }
 
 /// The piece above a cut.

@@ -1,10 +1,11 @@
-ghost use Rattle.std.specs.Prelude.{◌≡◌, ◌≤◌, ◌+◌, ◌*◌, ◌-◌, ◌++◌, [], ℕ, List, false, length, drop, IfOk, OnOk};
+ghost use Rattle.std.specs.Prelude.{◌≡◌, ◌≤◌, ◌+◌, ◌*◌, ◌-◌, ◌++◌, ◌∷◌, [], ℕ, List, false, length, drop, IfOk, OnOk};
 ghost use Rattle.vx_line.specs.Logarithm.{log2_up};
-ghost use Rattle.vx_interval.specs.Steps.Lines.{IsLineOf, line_cost, has_item, all_cuts, with_cuts, all_at};
+ghost use Rattle.vx_interval.specs.Steps.Lines.{IsLineOf, AreChangesOf, line_cost, has_item, all_cuts, with_cuts, all_at};
 
+use crate::bounds::Joined;
 use crate::compares::Compares;
 use crate::counter::Steps;
-use crate::line::{Line, join_lines, line_of_span};
+use crate::line::{Line, changes_of_span, join_lines, line_of_span};
 use crate::merging::join_values;
 use std::alloc::Global;
 use std::sync::ledger::Ledger;
@@ -33,6 +34,11 @@ pub(crate) trait Part<C: Compares<L>, L: Ledger>: Drop {
     fn line(self, alloc: Global, steps: &mut Steps<L>) -> Result<Line<C::Item>, NoMemory>
         ensures line { IfOk result (λ line. IsLineOf C.order (cuts self) (λ below. at below self) line) }
         ensures cost { steps.new ≤ steps.old + line_cost depth (length (cuts self)) };
+
+    /// The cuts at which its line changes, within the same bound.
+    fn changes(self, alloc: Global, steps: &mut Steps<L>) -> Result<Joined<C::Item>, NoMemory>
+        ensures changes { IfOk result (AreChangesOf C.order (cuts self) (λ below. at below self)) }
+        ensures cost { steps.new ≤ steps.old + line_cost depth (length (cuts self)) };
 }
 
 impl<C: Compares<L>, L: Ledger> Part<C, L> for Span<C::Item> {
@@ -52,6 +58,11 @@ impl<C: Compares<L>, L: Ledger> Part<C, L> for Span<C::Item> {
     fn line(self, alloc: Global, steps: &mut Steps<L>) -> Result<Line<C::Item>, NoMemory> {
         line_of_span::<C, L>(alloc, self, steps)
     }
+
+    fn changes(self, alloc: Global, steps: &mut Steps<L>) -> Result<Joined<C::Item>, NoMemory> {
+        let joined = changes_of_span::<C, L>(alloc, self, steps)?;
+        Ok(joined)
+    }
 }
 
 impl<C: Compares<L>, L: Ledger> Part<C, L> for Spans<C::Item> {
@@ -69,6 +80,10 @@ impl<C: Compares<L>, L: Ledger> Part<C, L> for Spans<C::Item> {
 
     fn line(self, alloc: Global, steps: &mut Steps<L>) -> Result<Line<C::Item>, NoMemory> {
         join_parts::<Span<C::Item>, C, L>(alloc, false, self, steps)
+    }
+
+    fn changes(self, alloc: Global, steps: &mut Steps<L>) -> Result<Joined<C::Item>, NoMemory> {
+        join_changes::<Span<C::Item>, C, L>(alloc, false, self, steps)
     }
 }
 
@@ -88,6 +103,10 @@ impl<C: Compares<L>, L: Ledger> Part<C, L> for Alternative<C::Item> {
 
     fn line(self, alloc: Global, steps: &mut Steps<L>) -> Result<Line<C::Item>, NoMemory> {
         join_parts::<Spans<C::Item>, C, L>(alloc, true, self, steps)
+    }
+
+    fn changes(self, alloc: Global, steps: &mut Steps<L>) -> Result<Joined<C::Item>, NoMemory> {
+        join_changes::<Spans<C::Item>, C, L>(alloc, true, self, steps)
     }
 }
 
@@ -163,6 +182,18 @@ fn last_lines<X: Part<C, L>, C: Compares<L>, L: Ledger>(
     Ok(line)
 }
 
+/// Takes the one part that there is out of its list.
+fn only_part<X: Drop>(parts: List<X>) -> X
+    requires { length parts ≡ 1 }
+    ensures { parts ≡ result ∷ [] }
+{
+    let mut parts = parts;
+    match parts.pop() {
+        Some(part) => part,
+        None => unreachable!(),
+    }
+}
+
 /// The line of what all of the parts hold, or one of them.
 pub(crate) fn join_parts<X: Part<C, L>, C: Compares<L>, L: Ledger>(
     alloc: Global,
@@ -174,12 +205,38 @@ pub(crate) fn join_parts<X: Part<C, L>, C: Compares<L>, L: Ledger>(
         IsLineOf C.order (all_cuts X.cuts parts) (λ below. all_at both (X.at below) parts) line) }
     ensures cost { steps.new ≤ steps.old + line_cost (X.depth + 1) (length (all_cuts X.cuts parts)) }
 {
+    if parts.len() == 1 {
+        return only_part(parts).line(alloc, steps);
+    }
     let mut parts = parts;
     let count = count_with_cuts::<X, C, L>(&parts);
     if count == 0 {
         return last_line::<X, C, L>(alloc, both, &mut parts, steps);
     }
     let line = last_lines::<X, C, L>(alloc, both, &mut parts, count, steps)?;
+    if parts.is_empty() {
+        return Ok(line);
+    }
     let rest = last_line::<X, C, L>(alloc, both, &mut parts, steps)?;
     Ok(line.join_even(both, rest.starts))
+}
+
+/// The cuts at which the line of the parts changes.
+pub(crate) fn join_changes<X: Part<C, L>, C: Compares<L>, L: Ledger>(
+    alloc: Global,
+    both: bool,
+    parts: List<X>,
+    steps: &mut Steps<L>,
+) -> Result<Joined<C::Item>, NoMemory>
+    ensures changes { IfOk result
+        (AreChangesOf C.order (all_cuts X.cuts parts) (λ below. all_at both (X.at below) parts)) }
+    ensures cost { steps.new ≤ steps.old + line_cost (X.depth + 1) (length (all_cuts X.cuts parts)) }
+{
+    if parts.len() == 1 {
+        return only_part(parts).changes(alloc, steps);
+    }
+    let line = join_parts::<X, C, L>(alloc, both, parts, steps)?;
+    let starts_in = line.starts;
+    let cuts = line.changes(alloc)?;
+    Ok(Joined { starts_in, cuts })
 }

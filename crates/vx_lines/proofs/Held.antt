@@ -1,8 +1,7 @@
 -- What is held of a read buffer, and what a line keeps of its front.
-use Rattle.std.proofs.Common.{◌≡◌, ℕ, ◌+◌, ◌-◌, ◌≤◌, ◌<◌, min, List, [], ◌∷◌, ◌++◌, zero, suc, length, take, drop, refl, ap, sym, ◌∙◌, arith, nat_lt, true, false, length-take, length-append}
+use Rattle.std.proofs.Common.{◌≡◌, ℕ, ◌+◌, ◌-◌, ◌≤◌, ◌<◌, min, List, [], ◌∷◌, ◌++◌, zero, suc, length, take, drop, refl, ap, sym, ◌∙◌, arith, nat_lt, true, false, length-take}
 use Rattle.std.proofs.lemmas.List.{take_min, take_all, drop-take, drop-drop, length-drop}
 use Rattle.std.proofs.Math.Nat.{min_comm}
-use Rattle.std.proofs.Math.Seq.{drop-append_seam}
 
 pub take_append : (n : ℕ) (xs ys : List ℕ) → take n (xs ++ ys) ≡ take n xs ++ take (n - length xs) ys
 take_append zero xs ys = let none : 0 - length xs ≡ 0 = omega arith in rw none refl
@@ -34,18 +33,18 @@ short_front most kept front e g =
 pub long_front : (most : ℕ) (front : List ℕ) → nat_lt most (length front) ≡ true → most < length front
 long_front most front g = grind arith
 
--- what is held behind a front of what was held
-pub rest_held : (chunk front rest : List ℕ) (from to : ℕ) → from ≤ to → to ≤ length chunk → take (to - from) (drop from chunk) ≡ front ++ rest → take (to - (to - length rest)) (drop (to - length rest) chunk) ≡ rest
-rest_held chunk front rest from to h k e =
-    let whole : length front + length rest ≡ to - from =
-    sym (length-append front rest) ∙ ap length (sym e) ∙ omega (arith, length-take (to - from) (drop from chunk), length-drop from chunk) in
-    let at : to - length rest ≡ from + length front = omega arith in
-    let size : to - (from + length front) ≡ length rest = omega arith in
-    let parts : take (to - from) (drop from chunk) ≡ take (length front + length rest) (drop from chunk) = ap (λ n. take n (drop from chunk)) (sym whole) in
-    rw (at, size) (ap (take (length rest)) (sym (drop-drop (length front) from chunk))
-    ∙ sym (drop-take (length front) (length rest) (drop from chunk))
-    ∙ ap (drop (length front)) (sym parts ∙ e)
-    ∙ drop-append_seam front rest)
+-- a place of what is held leaves room behind it
+pub room_behind : (chunk : List ℕ) (from to n : ℕ) → from ≤ to → to ≤ length chunk → n < length (take (to - from) (drop from chunk)) → from + (n + 1) ≤ to
+room_behind chunk from to n h k below = omega (arith, below, length-take (to - from) (drop from chunk), length-drop from chunk)
+
+-- what is held behind such a place
+pub behind_held : (chunk : List ℕ) (from to n : ℕ) → from + (n + 1) ≤ to → take (to - (from + (n + 1))) (drop (from + (n + 1)) chunk) ≡ drop (n + 1) (take (to - from) (drop from chunk))
+behind_held chunk from to n h =
+    let size = to - (from + (n + 1)) in
+    let whole : (n + 1) + size ≡ to - from = omega (arith, h) in
+    ap (take size) (sym (drop-drop (n + 1) from chunk))
+    ∙ sym (drop-take (n + 1) size (drop from chunk))
+    ∙ ap (λ m. drop (n + 1) (take m (drop from chunk))) whole
 
 pub none_held : (chunk : List ℕ) (to : ℕ) → take (to - to) (drop to chunk) ≡ []
 none_held chunk to = let none : to - to ≡ 0 = omega arith in rw none refl

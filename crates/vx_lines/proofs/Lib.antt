@@ -4,7 +4,6 @@ pub mod Held
 pub mod Collected
 pub mod Answered
 pub mod OneAnswer
-pub mod Feeds
 pub mod LineCuts
 pub mod Runs
 pub mod Turns

@@ -11,7 +11,7 @@ use crate::loop_end::LoopEnd;
 use crate::next_line::NextLine;
 use crate::outside::{Failed, Sink, Source, write_whole};
 use std::alloc::Global;
-use vx_scheme::NoMemory;
+use vx_scheme::{NoMemory, Text};
 
 /// What answers lines.
 pub trait Answering {
@@ -21,15 +21,15 @@ pub trait Answering {
 
     /// Appends the answer line to a line of at most `MOST_BYTES` bytes, without a line feed, and answers whether it is
     /// an accepted line's.
-    fn answer(&self, line: &[u8], text: &mut Vec<u8>) -> Result<bool, NoMemory>
+    fn answer(&self, line: &[u8], text: &mut Text) -> Result<bool, NoMemory>
         requires { length line.now ≤ MOST_BYTES }
         ensures { IfOk result (λ ok. (answer : List ℕ) × says self.now line.now ok answer
-            × (text.new.items ≡ text.old.items ++ answer)) };
+            × (text.new ≡ text.old ++ answer)) };
 
     /// Appends the answer line to a line of more bytes, which is the same for all such lines.
-    fn answer_long(&self, text: &mut Vec<u8>) -> Result<bool, NoMemory>
+    fn answer_long(&self, text: &mut Text) -> Result<bool, NoMemory>
         ensures { IfOk result (λ ok. (answer : List ℕ) × ((line : List ℕ) → MOST_BYTES < length line → says self.now line ok answer)
-            × (text.new.items ≡ text.old.items ++ answer)) };
+            × (text.new ≡ text.old ++ answer)) };
 }
 
 // Gathers the answer to what the source gave, with a line feed.
@@ -37,41 +37,35 @@ fn gather<A: Answering>(
     answering: &A,
     next: NextLine,
     line: &[u8],
-    gathered: &mut Vec<u8>,
+    gathered: &mut Text,
 ) -> Result<bool, NoMemory>
     requires short { length line.now ≤ MOST_BYTES }
-    ensures { IfOk result (λ ok. Gathers (A.says answering.now) MOST_BYTES next line.now gathered.old.items gathered.new.items ok) }
+    ensures { IfOk result (λ ok. Gathers (A.says answering.now) MOST_BYTES next line.now gathered.old gathered.new ok) }
 {
     let ok = if next == NextLine::TooLong {
         answering.answer_long(gathered)?
     } else {
         answering.answer(line, gathered)?
     };
-    if gathered.push(b'\n').is_err() {
-        return Err(NoMemory);
-    }
+    gathered.push_str("\n")?;
     Ok(ok)
 }
 
 // Writes what is gathered, and gathers anew, where the source is to be read.
-fn write_gathered<W: Sink>(
-    has_line: bool,
-    gathered: &mut Vec<u8>,
-    sink: &mut W,
-) -> Result<(), Failed>
-    ensures later { has_line ≡ true → OnOk result ((gathered.new.items ≡ gathered.old.items) × (sink.new ≡ sink.old)) }
-    ensures whole { has_line ≡ false → OnOk result ((gathered.new.items ≡ [])
-        × Appends (W.held sink.old) (W.held sink.new) gathered.old.items) }
-    ensures front { OnErr result (AppendsFront (W.held sink.old) (W.held sink.new) gathered.old.items) }
-    ensures some { OnErr result (gathered.old.items ≢ []) }
+fn write_gathered<W: Sink>(has_line: bool, gathered: &mut Text, sink: &mut W) -> Result<(), Failed>
+    ensures later { has_line ≡ true → OnOk result ((gathered.new ≡ gathered.old) × (sink.new ≡ sink.old)) }
+    ensures whole { has_line ≡ false → OnOk result ((gathered.new ≡ [])
+        × Appends (W.held sink.old) (W.held sink.new) gathered.old) }
+    ensures front { OnErr result (AppendsFront (W.held sink.old) (W.held sink.new) gathered.old) }
+    ensures some { OnErr result (gathered.old ≢ []) }
     ensures cause { HasCause (W.faults sink.old) (W.faults sink.new) result }
     ensures calls { StopsAtFault W.write_gives sink.old sink.new result }
 {
     if has_line || gathered.is_empty() {
         return Ok(());
     }
-    write_whole(sink, gathered.as_slice())?;
-    gathered.clear();
+    write_whole(sink, gathered.as_str().as_bytes())?;
+    gathered.cut(0);
     Ok(())
 }
 
@@ -109,7 +103,7 @@ fn run_lines<A: Answering, R: Source, W: Sink>(
     let Ok(mut lines) = Lines::new(alloc, limit) else {
         return LoopEnd::NoMemory;
     };
-    let mut gathered = Vec::new(alloc);
+    let mut gathered = Text::new(alloc);
     let mut is_ok = true;
     loop {
         match write_gathered(lines.has_line(), &mut gathered, sink) {

@@ -3,11 +3,11 @@ ghost use Rattle.std.specs.Io.KnownBytes.{Consumes, IsAtEnd};
 ghost use Rattle.vx_spec.specs.Marks.{Lacks};
 ghost use Rattle.vx_lines.specs.Lines.{line_feed};
 ghost use Rattle.vx_lines.specs.Outside.{HasCause, Rose};
-ghost use Rattle.vx_lines.specs.Steps.Buffers.{held_of, IsGood, KeepsMore, SameSizes, SameCounts, SameLine, TakesFront, IsFilled, AnswersNext, line_found};
+ghost use Rattle.vx_lines.specs.Steps.Buffers.{held_of, IsFeedOf, IsGood, KeepsMore, SameSizes, SameCounts, SameLine, TakesFront, IsFilled, AnswersNext, line_found};
 
 use crate::next_line::NextLine;
 use crate::outside::{Failed, Source};
-use vx_text::cut_bytes;
+use memchr::memchr;
 
 /// The most bytes that a line may have, without its line feed.
 pub const MOST_BYTES: usize = 65_536;
@@ -30,6 +30,8 @@ pub struct Buffers {
     pub from: usize,
     /// Where in it they end.
     pub to: usize,
+    /// How many of these bytes stand before their first line feed, where there is one.
+    pub feed: Option<usize>,
     /// How many bytes may be taken.
     pub limit: u64,
     /// How many were taken.
@@ -68,14 +70,20 @@ fn keep(line: &mut Vec<u8>, most: usize, is_long: &mut bool, piece: &[u8])
     let _ = line.extend_from_slice(&piece[..count]);
 }
 
+// How many bytes stand before the first line feed, where there is one.
+fn first_feed(bytes: &[u8]) -> Option<usize>
+    ensures { IsFeedOf bytes.now result }
+{
+    memchr(b'\n', bytes)
+}
+
 /// Whether a line feed is held. It takes no memory.
 pub fn has_feed(b: &Buffers) -> bool
     requires { IsGood b.now }
     ensures whole { result ≡ true → ¬ Lacks line_feed (held_of b.now) }
     ensures none { result ≡ false → Lacks line_feed (held_of b.now) }
 {
-    let (_, behind) = cut_bytes(&b.chunk[b.from..b.to], b'\n');
-    behind.is_some()
+    b.feed.is_some()
 }
 
 // Adds what is held to the line, up to its first line feed, and says whether there was one.
@@ -87,14 +95,15 @@ fn take_front(b: &mut Buffers) -> bool
     ensures front { TakesFront result b.old b.new }
 {
     let held = &b.chunk[b.from..b.to];
-    let (front, behind) = cut_bytes(held, b'\n');
-    keep(&mut b.line, b.most, &mut b.is_long, front);
-    match behind {
-        Some(rest) => {
-            b.from = b.to - rest.len();
+    match b.feed {
+        Some(count) => {
+            keep(&mut b.line, b.most, &mut b.is_long, &held[..count]);
+            b.feed = first_feed(&held[count + 1..]);
+            b.from += count + 1;
             true
         }
         None => {
+            keep(&mut b.line, b.most, &mut b.is_long, held);
             b.from = b.to;
             false
         }
@@ -129,6 +138,7 @@ fn fill<R: Source>(b: &mut Buffers, source: &mut R) -> Filled
     let room = (b.limit - b.taken).min(b.chunk.len() as u64) as usize;
     b.from = 0;
     b.to = 0;
+    b.feed = None;
     match read_front(source, b.chunk.as_mut_slice(), room) {
         Ok(0) => {
             b.ended = true;
@@ -136,6 +146,7 @@ fn fill<R: Source>(b: &mut Buffers, source: &mut R) -> Filled
         }
         Ok(count) => {
             b.to = count;
+            b.feed = first_feed(&b.chunk[..count]);
             b.taken += count as u64;
             if b.taken == b.limit {
                 Filled::Limit

@@ -59,6 +59,7 @@ impl Lines {
             chunk,
             from: 0,
             to: 0,
+            feed: None,
             limit,
             taken: 0,
             ended: false,

@@ -1,3 +1,7 @@
 pub mod IdentLaws
 pub mod LetterLaws
 pub mod PlaceRows
+pub mod DottedMaking
+pub mod PastPartLaws
+pub mod Pushed
+pub mod ScanLimits

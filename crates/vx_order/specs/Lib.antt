@@ -1,3 +1,10 @@
+pub mod Laws
 pub mod Idents
 pub mod Letters
 pub mod Places
+pub mod Cuts
+pub mod Dotted
+pub mod Identifiers
+pub mod PastParts
+pub mod Steps
+pub mod Scanning

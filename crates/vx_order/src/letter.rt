@@ -3,15 +3,15 @@ ghost use Rattle.std.specs.Prelude.{◌≡◌, [], ◌∷◌, ◌++◌, OnOk, On
 use std::alloc::Global;
 use vx_scheme::{List, NoMemory, Text, copy_text};
 
-/// A letter of a version's key.
+/// A letter of a version's key. The fields stand by their size, so that it takes 48 bytes.
 #[derive(Debug, Drop)]
 pub struct Letter {
-    /// What counts first.
-    pub rank: u32,
     /// What counts among letters of one rank.
     pub number: u128,
     /// What counts last, byte by byte.
     pub text: Text,
+    /// What counts first.
+    pub rank: u32,
 }
 
 /// A list of letters.

@@ -52,8 +52,11 @@ fn read_text<L: Language, S: Shape<L>>(
         (MakesBounds L.IsCut L.ReadsAs L.IsPast (L.outcome domain) (groups_from (L.spans domain) S.together 0) text.now) }
     ensures err { IfErr result (Refused (RefusesText L.IsCut L.ReadsAs L.IsPast (L.outcome domain) text.now)) }
 {
-    let groups = L::cut_text(alloc, text.as_bytes())?;
-    read_cut::<L, S>(alloc, &groups, domain)
+    // The groups are read where they lie: to take them out of the result would be to copy them.
+    match &L::cut_text(alloc, text.as_bytes()) {
+        Ok(groups) => read_cut::<L, S>(alloc, groups, domain),
+        Err(_) => Err(RangeFault::NoMemory),
+    }
 }
 
 /// What these groups, into which a text is cut, become in the domain, or the first refusal of the text.

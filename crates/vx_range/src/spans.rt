@@ -1,5 +1,5 @@
 ghost use Rattle.std.specs.Prelude.{◌≡◌, ◌+◌, ◌++◌, IfOk, OnOk};
-ghost use Rattle.vx_range.specs.Spans.{every, point, from, above, below, up_to, between};
+ghost use Rattle.vx_range.specs.Spans.{before, after, every, point, from, above, below, up_to, between};
 
 use std::alloc::Global;
 use vx_scheme::{Cut, NoMemory, Scheme, Span, Spans};
@@ -16,15 +16,24 @@ fn next_mark(marks: &mut u64) -> Result<u64, NoMemory>
     Ok(mark)
 }
 
-/// The cut directly before or after a version.
-fn cut<V: Drop>(marks: &mut u64, version: V, after: bool) -> Result<Cut<V>, NoMemory>
-    ensures cut { IfOk result (λ cut. cut ≡ record { version = version; after = after; mark = marks.old }) }
-    ensures marks { OnOk result (marks.new ≡ marks.old + 1) }
+/// The cut directly before a version.
+fn before<V>(version: V, mark: u64) -> Option<Cut<V>>
+    ensures { result ≡ before mark version }
 {
-    let mark = next_mark(marks)?;
-    Ok(Cut {
+    Some(Cut {
         version,
-        after,
+        after: false,
+        mark,
+    })
+}
+
+/// The cut directly after a version.
+fn after<V>(version: V, mark: u64) -> Option<Cut<V>>
+    ensures { result ≡ after mark version }
+{
+    Some(Cut {
+        version,
+        after: true,
         mark,
     })
 }
@@ -50,11 +59,11 @@ pub fn push_point<S: Scheme>(
     ensures marks { OnOk result (marks.new ≡ marks.old + 2) }
 {
     let copied = S::copy(alloc, &version)?;
-    let lower = cut(marks, version, false)?;
-    let upper = cut(marks, copied, true)?;
+    let first = next_mark(marks)?;
+    let second = next_mark(marks)?;
     out.push(Span {
-        lower: Some(lower),
-        upper: Some(upper),
+        lower: before(version, first),
+        upper: after(copied, second),
     })
 }
 
@@ -63,9 +72,9 @@ pub fn push_from<V: Drop>(marks: &mut u64, version: V, out: &mut Spans<V>) -> Re
     ensures span { OnOk result (out.new ≡ out.old ++ from marks.old version) }
     ensures marks { OnOk result (marks.new ≡ marks.old + 1) }
 {
-    let lower = cut(marks, version, false)?;
+    let mark = next_mark(marks)?;
     out.push(Span {
-        lower: Some(lower),
+        lower: before(version, mark),
         upper: None,
     })
 }
@@ -75,9 +84,9 @@ pub fn push_above<V: Drop>(marks: &mut u64, version: V, out: &mut Spans<V>) -> R
     ensures span { OnOk result (out.new ≡ out.old ++ above marks.old version) }
     ensures marks { OnOk result (marks.new ≡ marks.old + 1) }
 {
-    let lower = cut(marks, version, true)?;
+    let mark = next_mark(marks)?;
     out.push(Span {
-        lower: Some(lower),
+        lower: after(version, mark),
         upper: None,
     })
 }
@@ -87,10 +96,10 @@ pub fn push_below<V: Drop>(marks: &mut u64, version: V, out: &mut Spans<V>) -> R
     ensures span { OnOk result (out.new ≡ out.old ++ below marks.old version) }
     ensures marks { OnOk result (marks.new ≡ marks.old + 1) }
 {
-    let upper = cut(marks, version, false)?;
+    let mark = next_mark(marks)?;
     out.push(Span {
         lower: None,
-        upper: Some(upper),
+        upper: before(version, mark),
     })
 }
 
@@ -99,10 +108,10 @@ pub fn push_up_to<V: Drop>(marks: &mut u64, version: V, out: &mut Spans<V>) -> R
     ensures span { OnOk result (out.new ≡ out.old ++ up_to marks.old version) }
     ensures marks { OnOk result (marks.new ≡ marks.old + 1) }
 {
-    let upper = cut(marks, version, true)?;
+    let mark = next_mark(marks)?;
     out.push(Span {
         lower: None,
-        upper: Some(upper),
+        upper: after(version, mark),
     })
 }
 
@@ -116,10 +125,10 @@ pub fn push_between<V: Drop>(
     ensures span { OnOk result (out.new ≡ out.old ++ between marks.old version end) }
     ensures marks { OnOk result (marks.new ≡ marks.old + 2) }
 {
-    let lower = cut(marks, version, false)?;
-    let upper = cut(marks, end, false)?;
+    let first = next_mark(marks)?;
+    let second = next_mark(marks)?;
     out.push(Span {
-        lower: Some(lower),
-        upper: Some(upper),
+        lower: before(version, first),
+        upper: before(end, second),
     })
 }

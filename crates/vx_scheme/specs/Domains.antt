@@ -1,4 +1,4 @@
--- The versions of a domain, over the members of a scheme.
+-- The versions of a domain, over the members of a scheme: this project's own.
 use Rattle.vx_scheme.specs.declared.domain.Domain.{Domain}
 use Rattle.vx_scheme.specs.declared.scheme.Scheme.{Ghosts}
 use Rattle.vx_scheme.specs.Native.{by_domain}

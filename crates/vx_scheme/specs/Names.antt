@@ -1,4 +1,4 @@
--- The names of the schemes, as texts.
+-- VERS, "<versioning-scheme>": the names of the schemes, as texts, which are types of package URLs too (ECMA-427).
 use Rattle.std.specs.Prelude.{ℕ, List, codes, Option, Some, None, if◌then◌else◌, bytes_eq}
 use Rattle.vx_scheme.specs.declared.name.SchemeName.{SchemeName}
 use Rattle.vx_scheme.specs.declared.name.SchemeName.TheVariants.{Npm, Pypi, Maven, Gem, Deb, Rpm, Nuget, Cargo}

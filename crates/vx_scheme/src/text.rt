@@ -1,4 +1,4 @@
-ghost use Rattle.std.specs.Prelude.{◌≡◌, [], ◌++◌, OnOk, OnErr, IfOk, length, take, ◌≤◌, IsUtf8, string_bytes, IsTrue, ◌↔◌};
+ghost use Rattle.std.specs.Prelude.{◌≡◌, ◌+◌, ◌<◌, [], ◌∷◌, ◌++◌, OnOk, OnErr, IfOk, length, take, ◌≤◌, IsUtf8, string_bytes, IsTrue, ◌↔◌};
 ghost use Rattle.vx_spec.specs.Numerals.{numeral_text};
 
 use crate::memory::NoMemory;
@@ -104,8 +104,24 @@ impl Text {
         ensures ok { OnOk result (self.new ≡ self.old ++ numeral_text number) }
         ensures err { OnErr result (self.new ≡ self.old) }
     {
-        let mut digits = Buffer::new();
-        self.push_str(digits.format(number))
+        if number < 10 {
+            self.push_digit(number as u8)
+        } else {
+            let mut digits = Buffer::new();
+            self.push_str(digits.format(number))
+        }
+    }
+
+    /// Appends one digit. A refused push leaves the text as it was.
+    fn push_digit(&mut self, digit: u8) -> Result<(), NoMemory>
+        requires { digit < 10 }
+        ensures ok { OnOk result (self.new ≡ self.old ++ (48 + digit) ∷ []) }
+        ensures err { OnErr result (self.new ≡ self.old) }
+    {
+        match self.inner.push(char::from(b'0' + digit)) {
+            Ok(()) => Ok(()),
+            Err(_) => Err(NoMemory),
+        }
     }
 
     /// The allocator that the text was made with.

@@ -2,7 +2,7 @@
 use Rattle.std.proofs.Common.{◌≡◌, ◌<◌, ◌≤◌, ◌+◌, ℕ, zero, suc, Bool, true, false, cond, List, [], ◌∷◌, ◌++◌, length, get_or, set, take, drop, refl, sym, ap, ◌∙◌, inl, inr, arith, append_assoc, append-nil}
 use Rattle.std.specs.List.{swap}
 use Rattle.std.proofs.lemmas.Bool.{cases_lt}
-use Rattle.std.proofs.lemmas.List.{drop_all, drop_more, drop-set-lt, take-set, take-set-le, take_more_set, length-set}
+use Rattle.std.proofs.lemmas.List.{set-get_or, drop_all, drop_more, drop-set-lt, take-set, take-set-le, take_more_set, length-set}
 use Rattle.vx_vers.specs.Meaning.{Kind, opens_next, closes_here, closes_first}
 use Rattle.vx_simplify.specs.Simplified.{is_dropped, simplified}
 use Rattle.vx_simplify.proofs.Dropping.{kept, simplified-kept}
@@ -12,6 +12,11 @@ module _ {C : Type 0} where
   any_default [] i c d less = absurd (omega arith)
   any_default (x ∷ xs) zero c d less = refl
   any_default (x ∷ xs) (suc i) c d less = any_default xs i c d (omega arith)
+
+  -- an item that is swapped with itself
+  pub swap_itself : (xs : List C) (i : ℕ) → swap xs i i ≡ xs
+  swap_itself [] i = refl
+  swap_itself (d ∷ ds) i = ap (λ (ys : List C). set ys i (get_or (d ∷ ds) i d)) (set-get_or (d ∷ ds) i d) ∙ set-get_or (d ∷ ds) i d
 
   -- an item that is put at a lower place, or at its own
   put_lower : (xs : List C) (a b : ℕ) (u v : C) → a ≤ b → b < length xs → (a ≡ b → u ≡ v) → take (a + 1) (set (set xs a u) b v) ≡ take a xs ++ u ∷ []

@@ -1,4 +1,5 @@
-ghost use Rattle.std.specs.Prelude.{◌≡◌, ◌≤◌, true, IfOk, length, take};
+ghost use Rattle.std.specs.Prelude.{◌≡◌, ◌≤◌, ◌<◌, true, IfOk, length, take};
+ghost use Rattle.std.specs.List.{swap};
 ghost use Rattle.vx_vers.specs.Meaning.{kind, kind_of_comparator, meaning};
 ghost use Rattle.vx_vers.specs.Sorted.{IsSorted};
 ghost use Rattle.vx_vers.specs.Validity.{is_valid};
@@ -52,12 +53,24 @@ fn move_to_front<V>(items: &mut [Constraint<V>]) -> usize
         let comparator = items[i].comparator;
         closes = closes_behind(items, i, closes);
         if !is_superfluous(opens, comparator, closes) {
-            items.swap(count, i);
+            move_down(items, count, i);
             count += 1;
         }
         opens = comparator.opens_after(opens);
     }
     count
+}
+
+/// Swaps a constraint with one that stands in front of it, or leaves it at its own place.
+fn move_down<V>(items: &mut [Constraint<V>], to: usize, from: usize)
+    requires order { to ≤ from }
+    requires within { from < length items.old }
+    ensures after { items.new ≡ swap items.old to from }
+    ensures len { length items.new ≡ length items.old }
+{
+    if to < from {
+        items.swap(to, from);
+    }
 }
 
 /// Whether a constraint is dropped. `opens` says whether the last range constraint before it opens, and `closes`

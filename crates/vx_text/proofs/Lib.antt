@@ -3,3 +3,4 @@ pub mod EscapeLaws
 pub mod Joins
 pub mod PastLaws
 pub mod PieceLaws
+pub mod ValueLaws

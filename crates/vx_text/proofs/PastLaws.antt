@@ -1,5 +1,5 @@
 -- Numerals past the limit, and how they are found.
-use Rattle.std.proofs.Common.{◌≡◌, ◌<◌, ◌+◌, ◌^◌, ◌++◌, not, ℕ, zero, suc, Bool, true, false, List, [], ◌∷◌, length, drop, refl, sym, ap, ◌∙◌, subst, inl, inr, Some, None, arith, nat_lt, append-nil}
+use Rattle.std.proofs.Common.{◌≡◌, ◌<◌, ◌≤◌, ◌+◌, ◌^◌, ◌++◌, not, ℕ, zero, suc, Bool, true, false, List, [], ◌∷◌, length, drop, refl, sym, ap, ◌∙◌, subst, inl, inr, Some, None, arith, nat_lt, append-nil, length-append}
 use Rattle.std.specs.List.{list_all, prefix_len}
 use Rattle.std.specs.Char.{is_ascii_alphabetic, is_ascii_digit}
 use Rattle.std.specs.Str.{IsUtf8}
@@ -10,6 +10,7 @@ use Rattle.vx_spec.specs.Runs.{begins, run, past}
 use Rattle.vx_spec.proofs.RunLaws.{run_step, run_stays, run_past, past_begins, run_all, one_run}
 use Rattle.vx_spec.proofs.TextLaws.{each_by_test, utf8_by_each}
 use Rattle.vx_text.specs.Past.{is_past, first_past, NonePast}
+use Rattle.vx_text.proofs.ValueLaws.{few_within}
 
 -- digits are UTF-8
 digit_byte : (b : ℕ) → is_ascii_digit b ≡ true → b < 128
@@ -106,6 +107,20 @@ numeral_within text is none = subst (λ r. value r < 2 ^ 128) (whole_run text (n
 pub first_none : (at : ℕ) (text : List ℕ) → NonePast text → first_past at text ≡ None
 first_none at [] h = refl
 first_none at (b ∷ text) h = rw (not_past (run is_ascii_digit (b ∷ text)) h.0) (first_none (at + 1) text h.1)
+
+-- too few bytes for a numeral past the limit
+run_most : (text : List ℕ) → length (run is_ascii_digit text) ≤ length text
+run_most text = omega (arith, ap length (run_past is_ascii_digit text), length-append (run is_ascii_digit text) (past is_ascii_digit text))
+
+few_none : (text : List ℕ) → length text < 39 → NonePast text
+few_none [] few = tt
+few_none (b ∷ text) few = (
+  few_within (run is_ascii_digit (b ∷ text)) (run_all is_ascii_digit (b ∷ text)) (omega (arith, run_most (b ∷ text), few)),
+  few_none text (omega arith),
+)
+
+pub few_first : (at : ℕ) (text : List ℕ) → length text < 39 → first_past at text ≡ None
+few_first at text few = first_none at text (few_none text few)
 
 pub no_digit : (b : ℕ) (text : List ℕ) → is_ascii_digit b ≡ false → value (run is_ascii_digit (b ∷ text)) < 2 ^ 128
 no_digit b text other = rw (run_stays is_ascii_digit b text other) (omega arith)

@@ -1,4 +1,5 @@
--- Percent escapes: what `escape` appends and what `unescape` answers.
+-- Percent escapes (ECMA-427, the percent-encoding of components; VERS texts use the same): what `escape` appends and what
+-- `unescape` answers.
 use Rattle.std.specs.Prelude.{ℕ, ◌+◌, ◌<◌, ◌≡◌, ◌==◌, ◌||◌, Bool, true, if◌then◌else◌, List, [], ◌∷◌, length, slice_index, All, IsUtf8, Result, Ok, Err}
 use Rattle.std.specs.Char.{is_ascii_alphanumeric, is_digit}
 use Rattle.std.specs.List.{flat_map}

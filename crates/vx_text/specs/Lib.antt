@@ -4,3 +4,4 @@ pub mod Folding
 pub mod Numeral
 pub mod Past
 pub mod Pieces
+pub mod Steps

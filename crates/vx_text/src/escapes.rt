@@ -1,4 +1,5 @@
-ghost use Rattle.std.specs.Prelude.{◌≡◌, ◌++◌, ◌<◌, ◌↔◌, IfOk, IfErr, IsTrue, OnOk, OnErr, IfSome, IfNone, length};
+ghost use Rattle.std.specs.Prelude.{◌≡◌, ◌==◌, ◌||◌, ◌++◌, ◌<◌, ◌↔◌, IfOk, IfErr, IsTrue, OnOk, OnErr, IfSome, IfNone, length};
+ghost use Rattle.std.specs.Char.{is_ascii_alphabetic};
 ghost use Rattle.std.specs.List.{list_all};
 ghost use Rattle.vx_text.specs.Escapes.{is_left, EscapesAreUndone, IsBroken, IsFirstBroken, IsFollowed, IsUnescapedAs, IsWhole, escaped};
 
@@ -59,14 +60,20 @@ impl From<AllocError> for EscapeFault {
 pub fn is_left(text: &[u8]) -> bool
     ensures { result ≡ list_all is_left text.now }
 {
-    text.iter().all(|byte| {
-        byte.is_ascii_alphanumeric()
-            || *byte == b'.'
-            || *byte == b'-'
-            || *byte == b'_'
-            || *byte == b'~'
-            || *byte == b':'
-    })
+    text.iter().all(|byte| is_left_byte(*byte))
+}
+
+/// Whether the byte stands for itself. Digits and dots come first, since most bytes of versions are such.
+fn is_left_byte(byte: u8) -> bool
+    ensures { result ≡ is_left byte }
+{
+    byte.is_ascii_digit() || byte == b'.' || is_rare_left(byte)
+}
+
+fn is_rare_left(byte: u8) -> bool
+    ensures { result ≡ (is_ascii_alphabetic byte || byte == 45 || byte == 95 || byte == 126 || byte == 58) }
+{
+    byte.is_ascii_alphabetic() || byte == b'-' || byte == b'_' || byte == b'~' || byte == b':'
 }
 
 /// Appends the text with every byte but ASCII letters, digits and `. - _ ~ :` escaped. A refused call leaves `out` as

@@ -1,5 +1,5 @@
 -- Texts without their blanks, and the head of a text.
-use Rattle.std.proofs.Common.{lit<, ◌≡◌, ◌<◌, ◌++◌, eqb, cond, not, ℕ, Bool, true, false, List, [], ◌∷◌, get_or, refl, sym, ap, subst, ◌∙◌, inl, inr, arith, Some, None, append-nil}
+use Rattle.std.proofs.Common.{lit<, ◌≡◌, ◌<◌, ◌++◌, eqb, cond, not, ℕ, Bool, true, false, List, [], ◌∷◌, get_or, refl, sym, ap, subst, ◌∙◌, inl, inr, arith, Some, None, append-nil, append_assoc}
 use Rattle.std.specs.Prelude.{codes, filter}
 use Rattle.std.specs.Char.{to_ascii_lowercase}
 use Rattle.std.specs.List.{list_all}
@@ -108,6 +108,23 @@ name_is Cargo = refl
 
 pub one_name : (a b : SchemeName) → text_of a ≡ text_of b → a ≡ b
 one_name a b e = sym (name_is a) ∙ ap name_read e ∙ name_is b
+
+-- a head is in lower case, and has no blank
+head_stays : (name : SchemeName) → IsNamed (solid (codes "vers:" ++ text_of name)) name
+head_stays Npm = refl
+head_stays Pypi = refl
+head_stays Maven = refl
+head_stays Gem = refl
+head_stays Deb = refl
+head_stays Rpm = refl
+head_stays Nuget = refl
+head_stays Cargo = refl
+
+pub usual_named : (front : List ℕ) (name : SchemeName) → text_of name ≡ front → IsNamed (solid (codes "vers:" ++ front)) name
+usual_named front name e = subst (λ t. IsNamed (solid (codes "vers:" ++ t)) name) e (head_stays name)
+
+pub usual_joined : (text named front rest : List ℕ) → text ≡ codes "vers:" ++ named → named ≡ front ++ 47 ∷ rest → text ≡ (codes "vers:" ++ front) ++ 47 ∷ rest
+usual_joined text named front rest e f = e ∙ ap (λ (t : List ℕ). codes "vers:" ++ t) f ∙ sym (append_assoc (codes "vers:") front (47 ∷ rest))
 
 behind_vers : (a b : List ℕ) → codes "vers:" ++ a ≡ codes "vers:" ++ b → a ≡ b
 behind_vers a b e = cc e

@@ -1,18 +1,21 @@
 -- Parts of a text between marks, one after the other.
-use Rattle.std.proofs.Common.{◌≡◌, ◌≢◌, ◌<◌, ◌≤◌, ◌+◌, ◌++◌, ◌||◌, eqb, cond, not, ℕ, Bool, true, false, true≢false, List, [], ◌∷◌, length, refl, sym, ap, ◌∙◌, inl, inr, arith, Option, Some, None, append_assoc, length-append}
+use Rattle.std.proofs.Common.{◌≡◌, ◌≢◌, ◌<◌, ◌≤◌, ◌+◌, ◌++◌, ◌||◌, eqb, cond, not, ℕ, Bool, true, false, true≢false, List, [], ◌∷◌, length, refl, sym, ap, subst, ◌∙◌, inl, inr, arith, Option, Some, None, append_assoc, length-append}
 use Rattle.std.specs.Prelude.{codes, count_by, filter}
-use Rattle.std.specs.List.{list_any, slice_split}
-use Rattle.std.proofs.lemmas.Bool.{cases_Bool, ne_eqb}
+use Rattle.std.specs.List.{AllByRecursion, join_with_byte, list_all, list_any, slice_split}
+use Rattle.std.proofs.lemmas.Bool.{and_from, and_parts, cases_Bool, ne_eqb}
 use Rattle.std.proofs.lemmas.Bool.Decides.{nat_tests}
 use Rattle.std.proofs.lemmas.List.Elements.{filter-append}
 use Rattle.std.proofs.lemmas.Slice.Eq.{bytes_eq-Decides}
 use Rattle.std.proofs.lemmas.List.Sums.{sum_by-cons}
 use Rattle.std.proofs.lemmas.List.Splits.{join_with_byte-slice_split}
 use Rattle.vx_spec.specs.Marks.{IsCut, Lacks}
+use Rattle.vx_spec.specs.Runs.{is_solid}
+use Rattle.vx_spec.proofs.EndLaws.{lacks_by}
 use Rattle.vx_text.proofs.Joins.{split_lacks, split_some}
 use Rattle.vx_vers.specs.Grammar.{AreParts, HasStar, NoStar, kept_parts}
 use Rattle.vx_vers.specs.Heads.{solid}
-use Rattle.vx_vers.specs.Steps.Reading.{is_some_part, is_star}
+use Rattle.vx_vers.specs.Steps.Reading.{IsPlainIf, is_plain, is_some_part, is_star}
+use Rattle.vx_vers.proofs.HeadLaws.{all_behind}
 
 -- how many bytes what is left has, with its mark
 abbrev pub left : Option (List ℕ) → ℕ
@@ -120,6 +123,68 @@ starless ([] ∷ parts) t = starless parts t
 starless ((b ∷ part) ∷ parts) t =
     let none = or_parts (is_star (b ∷ part)) (list_any is_star parts) t in
     (λ e. true≢false (sym ((bytes_eq-Decides (b ∷ part) (codes "*")).1 e) ∙ none.0), starless parts none.1)
+
+-- where no byte is that of `*`, no part is
+apart : (c : ℕ) (a b : List ℕ) → Lacks c (a ++ b) → Lacks c a × Lacks c b
+apart c [] b lacks = (tt, lacks)
+apart c (x ∷ a) b lacks = let h = apart c a b lacks.1 in ((lacks.0, h.0), h.1)
+
+parts_lack : (c mark : ℕ) (parts : List (List ℕ)) → Lacks c (join_with_byte mark parts) → AllByRecursion (Lacks c) parts
+parts_lack c mark [] lacks = tt
+parts_lack c mark (part ∷ []) lacks = (lacks, tt)
+parts_lack c mark (part ∷ next ∷ parts) lacks = let h = apart c part (mark ∷ join_with_byte mark (next ∷ parts)) lacks in (h.0, parts_lack c mark (next ∷ parts) h.1.1)
+
+no_star_part : (part : List ℕ) → Lacks 42 part → is_star part ≡ false
+no_star_part part lacks = elim (cases_Bool (is_star part)) [
+  | inl is ↦ absurd ((subst (Lacks 42) (star_part part is) lacks).0 refl)
+  | inr other ↦ other
+]
+
+no_stars : (parts : List (List ℕ)) → AllByRecursion (Lacks 42) parts → list_any is_star parts ≡ false
+no_stars [] lack = refl
+no_stars (part ∷ parts) lack = rw (no_star_part part lack.0) (no_stars parts lack.1)
+
+pub plain_lacks : (c : ℕ) → is_plain c ≡ false → (text : List ℕ) → list_all is_plain text ≡ true → Lacks c text
+plain_lacks c other text all = lacks_by is_plain c other text all
+
+pub plain_no_star : (text : List ℕ) → list_all is_plain text ≡ true → NoStar (kept_parts (slice_split (λ b. eqb b 124) text))
+plain_no_star text all =
+    let parts : List (List ℕ) = slice_split (λ b. eqb b 124) text in
+    starless parts (no_stars parts (parts_lack 42 124 parts (subst (Lacks 42) (sym (join_with_byte-slice_split 124 text)) (plain_lacks 42 refl text all))))
+
+-- a plain byte is no blank
+plain_byte : (b : ℕ) → is_plain b ≡ true → is_solid b ≡ true
+plain_byte b plain = grind (arith, nat_tests)
+
+pub plain_solid : (text : List ℕ) → list_all is_plain text ≡ true → list_all is_solid text ≡ true
+plain_solid [] all = refl
+plain_solid (b ∷ text) all =
+    let a = and_parts (is_plain b) (list_all is_plain text) all in
+    and_from (is_solid b) (list_all is_solid text) (plain_byte b a.0) (plain_solid text a.1)
+
+-- what stands in front of something, and behind it
+pub all_front : (test : ℕ → Bool) (front rest : List ℕ) → list_all test (front ++ rest) ≡ true → list_all test front ≡ true
+all_front test [] rest all = refl
+all_front test (b ∷ front) rest all =
+    let a = and_parts (test b) (list_all test (front ++ rest)) all in
+    and_from (test b) (list_all test front) a.0 (all_front test front rest a.1)
+
+pub all_rest : (test : ℕ → Bool) (front rest : List ℕ) → list_all test (front ++ rest) ≡ true → list_all test rest ≡ true
+all_rest test [] rest all = all
+all_rest test (b ∷ front) rest all = all_rest test front rest (and_parts (test b) (list_all test (front ++ rest)) all).1
+
+-- where the text is plain, so is what is left of it
+abbrev pub IsPlainLeft : Bool → Option (List ℕ) → Type 0
+IsPlainLeft plain None = Unit {0}
+IsPlainLeft plain (Some text) = IsPlainIf plain text
+
+pub plain_part : (plain : Bool) (c : ℕ) (text front : List ℕ) (behind : Option (List ℕ)) → IsCut c text front behind → IsPlainIf plain text → IsPlainIf plain front
+plain_part plain c text front None cut is = λ p. all_front is_plain front [] (subst (λ t. list_all is_plain t ≡ true) cut.joined (is p))
+plain_part plain c text front (Some rest) cut is = λ p. all_front is_plain front (c ∷ rest) (subst (λ t. list_all is_plain t ≡ true) cut.joined (is p))
+
+pub plain_behind : (plain : Bool) (c : ℕ) (text front : List ℕ) (behind : Option (List ℕ)) → IsCut c text front behind → IsPlainIf plain text → IsPlainLeft plain behind
+plain_behind plain c text front None cut is = tt
+plain_behind plain c text front (Some rest) cut is = λ p. all_behind is_plain front rest c (subst (λ t. list_all is_plain t ≡ true) cut.joined (is p))
 
 pub star_counts : (written : List (List ℕ)) → HasStar written → 1 ≤ length written
 star_counts [] star = absurd star

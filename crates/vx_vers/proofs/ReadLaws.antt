@@ -13,7 +13,7 @@ use Rattle.vx_vers.specs.declared.fault.VersFault.TheVariants as fault_of
 use Rattle.vx_vers.specs.Grammar.{EachWithin, NoStar, SpellEach, SpellsConstraint, kept_parts}
 use Rattle.vx_vers.specs.Refusals.{RefusesPart, RefusesWritten, numbered_texts}
 use Rattle.vx_vers.specs.Steps.Numbering.{IsSettledAs}
-use Rattle.vx_vers.specs.Steps.Reading.{IsReadNext, IsReadUpTo, IsWrittenReadAs, Refused, RefusesNext}
+use Rattle.vx_vers.specs.Steps.Reading.{IsPartReadAs, IsPushed, IsReadNext, IsReadUpTo, IsWrittenReadAs, Refused, RefusesNext}
 use Rattle.vx_vers.proofs.PartLaws.{left}
 
 module _ {V : Type 0} (Spells : List ℕ → V → Type 0) (IsWithin : V → Type 0) where
@@ -35,6 +35,14 @@ module _ {V : Type 0} (Spells : List ℕ → V → Type 0) (IsWithin : V → Typ
   spelled_length (text ∷ texts) [] p = absurd p
   spelled_length (text ∷ texts) (c ∷ list) p = omega (arith, spelled_length texts list p.1)
 
+  pub none_spelled : (texts : List (List ℕ)) (list : List (Constraint V)) → list ≡ [] → SpellEach Spells texts list → texts ≡ []
+  none_spelled [] list none p = refl
+  none_spelled (text ∷ texts) list none p = absurd (subst (SpellEach Spells (text ∷ texts)) none p)
+
+  pub spelled_none : (texts : List (List ℕ)) (list : List (Constraint V)) → texts ≡ [] → SpellEach Spells texts list → list ≡ []
+  spelled_none texts [] none p = refl
+  spelled_none texts (c ∷ list) none p = absurd (subst (λ ts. SpellEach Spells ts (c ∷ list)) none p)
+
   spelled_more : (texts : List (List ℕ)) (list : List (Constraint V)) (text : List ℕ) (c : Constraint V) → SpellEach Spells texts list → SpellsConstraint Spells text c → SpellEach Spells (texts ++ text ∷ []) (list ++ c ∷ [])
   spelled_more [] [] text c p one = (one, tt)
   spelled_more [] (d ∷ list) text c p one = absurd p
@@ -47,6 +55,18 @@ module _ {V : Type 0} (Spells : List ℕ → V → Type 0) (IsWithin : V → Typ
   pub next_read : (part : List ℕ) (list more : List (Constraint V)) (c : Constraint V) → part ≢ [] → more ≡ list ++ c ∷ [] → SpellsConstraint Spells part c → IsWithin c.version → IsReadNext Spells IsWithin part list more
   next_read [] list more c some e spelled within = absurd (some refl)
   next_read (b ∷ part) list more c some e spelled within = (c, e, spelled, within)
+
+  -- what is pushed of a part that is read, and why it is refused
+  pub pushed_read : (k : ℕ) (part : List ℕ) (list more : List (Constraint V)) (answer : Result (Constraint V) VersFault) → part ≢ [] → IsPartReadAs Spells IsWithin (k, part) answer
+      → IsPushed answer list more → IsReadNext Spells IsWithin part list more
+  pushed_read k part list more answer some read pushed =
+      let h = subst (IsPartReadAs Spells IsWithin (k, part)) pushed.2 read in
+      next_read part list more pushed.0 some pushed.1 h.0 h.1
+
+  pub refused_read : (k : ℕ) (part : List ℕ) (list : List (Constraint V)) (answer : Result (Constraint V) VersFault) (fault : VersFault) → k ≡ length list + 1 → part ≢ [] → IsPartReadAs Spells IsWithin (k, part) answer
+      → Refused (λ f. answer ≡ Err f) fault → Refused (RefusesNext Spells IsWithin part list) fault
+  refused_read k part list answer fault number some read refused = λ cause.
+      (some, subst (λ n. RefusesPart Spells IsWithin (n, part) (Some fault)) number (subst (IsPartReadAs Spells IsWithin (k, part)) (refused cause) read cause))
 
   -- one part more
   read_one : (texts : List (List ℕ)) (part : List ℕ) (parts : List (List ℕ)) (list more : List (Constraint V)) → IsReadUpTo Spells IsWithin texts (kept_parts (part ∷ parts)) list

@@ -1,11 +1,13 @@
 -- From what a scheme answers to what is answered of a constraint, and from what was printed to what is read of it.
-use Rattle.std.proofs.Common.{◌≡◌, ◌≢◌, ◌<◌, ◌≤◌, ◌-◌, ◌++◌, arith, ℕ, true, List, [], length, take, drop, refl, sym, ap, subst, ◌∙◌, Result, Ok, Err, Ordering}
+use Rattle.std.proofs.Common.{◌≡◌, ◌≢◌, ◌<◌, ◌≤◌, ◌-◌, ◌++◌, arith, ℕ, true, List, [], ◌∷◌, zero, suc, get_or, length, take, drop, refl, sym, ap, subst, ◌∙◌, Result, Ok, Err, Ordering}
 use Rattle.std.specs.Prelude.{IfErr, IfOk, IsUtf8}
 use Rattle.std.specs.Cmp.{IsTotalOrder}
 use Rattle.std.specs.List.{AllByRecursion, list_all}
 use Rattle.std.proofs.lemmas.Bool.Decides.{nat_tests}
 use Rattle.std.proofs.lemmas.List.{drop_at, take_rest}
 use Rattle.std.proofs.lemmas.List.Elements.{All-from_recursion}
+use Rattle.percent_encoding.proofs.PercentLemmas.{percent_decode-nil, percent_decode_not_percent}
+use Rattle.vx_spec.specs.Marks.{Lacks}
 use Rattle.vx_spec.proofs.TextLaws.{each_by_test, utf8_by_each}
 use Rattle.vx_scheme.specs.declared.name.SchemeName.{SchemeName}
 use Rattle.vx_scheme.specs.declared.version_fault.VersionFault.{VersionFault}
@@ -20,9 +22,15 @@ use Rattle.vx_vers.specs.declared.fault.VersFault.TheVariants as fault_of
 use Rattle.vx_vers.specs.Again.{IsSameList, IsWritable, SpellsSame}
 use Rattle.vx_vers.specs.Grammar.{EachWithin, HasForm, IsSigned, SpellsList}
 use Rattle.vx_vers.specs.Heads.{solid}
-use Rattle.vx_vers.specs.Steps.Reading.{IsPartReadAs, constraint_of_version}
+use Rattle.vx_vers.specs.Steps.Reading.{IsPartReadAs, constraint_of_version, is_plain}
 use Rattle.vx_vers.specs.Refusals.{Refuses}
 use Rattle.vx_vers.proofs.OneList.{one_list, unspelled}
+use Rattle.vx_vers.proofs.PartLaws.{plain_lacks}
+
+lacks_at : (c : ℕ) (text : List ℕ) → Lacks c text → (i : ℕ) → i < length text → get_or text i 0 ≢ c
+lacks_at c [] lacks i before = absurd (omega arith)
+lacks_at c (b ∷ text) lacks zero before = lacks.0
+lacks_at c (b ∷ text) lacks (suc i) before = lacks_at c text lacks.1 i (omega arith)
 
 -- bytes that are never escaped stand for themselves
 pub left_escaped : (raw : List ℕ) → list_all is_left raw ≡ true → escaped raw ≡ raw
@@ -43,6 +51,20 @@ left_form raw left some = record {
   whole = subst IsWhole (left_escaped raw left) (escaped-whole raw);
   utf8 = subst IsUtf8 (sym (left_stands raw left)) (utf8_by_each raw (left_bytes 128 (omega arith) raw left));
 }
+
+-- a text without '%' stands for itself
+pub plain_stands : (raw : List ℕ) → Lacks 37 raw → unescaped raw ≡ raw
+plain_stands [] lacks = percent_decode-nil
+plain_stands (b ∷ raw) lacks = percent_decode_not_percent b raw lacks.0 ∙ ap (λ (t : List ℕ). b ∷ t) (plain_stands raw lacks.1)
+
+plain_whole : (raw : List ℕ) → Lacks 37 raw → IsWhole raw
+plain_whole raw lacks = λ i before broken. lacks_at 37 raw lacks i before broken.1
+
+pub plain_form : (raw : List ℕ) → list_all is_plain raw ≡ true → IsUtf8 raw → raw ≢ [] → HasForm raw × (unescaped raw ≡ raw)
+plain_form raw all utf8 some =
+    let lacks = plain_lacks 37 refl raw all in
+    let stands = plain_stands raw lacks in
+    (record { some = some; whole = plain_whole raw lacks; utf8 = subst IsUtf8 (sym stands) utf8 }, stands)
 
 -- what was written behind a text
 pub left_tail : (old normal whole : List ℕ) (start : ℕ) → start ≡ length old → whole ≡ old ++ normal → list_all is_left (take (length whole - start) (drop start whole)) ≡ true → list_all is_left normal ≡ true

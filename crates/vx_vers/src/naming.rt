@@ -1,11 +1,11 @@
-ghost use Rattle.std.specs.Prelude.{◌≡◌, ◌≢◌, ◌↔◌, true, IfSome, IsTrue, MatchOption};
+ghost use Rattle.std.specs.Prelude.{◌≡◌, ◌≢◌, ◌↔◌, ℕ, Bool, true, IfSome, IsTrue, MatchOption};
 ghost use Rattle.std.specs.List.{list_all};
-ghost use Rattle.vx_spec.specs.Runs.{is_solid};
 ghost use Rattle.vx_scheme.specs.declared.name.SchemeName.{SchemeName};
 ghost use Rattle.vx_scheme.specs.Names.{text_of};
 ghost use Rattle.vx_text.specs.Folding.{lowered};
 ghost use Rattle.vx_vers.specs.Heads.{HasHead, HeadIs, IsNamed, NoHead, solid};
 
+use crate::parting::behind;
 use vx_scheme::SchemeName;
 use vx_text::{ByteClass, Solids, cut};
 
@@ -23,7 +23,36 @@ pub fn head(text: &str) -> Option<SchemeName>
 /// The scheme of the head, and what stands behind it.
 pub(crate) fn cut_head(text: &str) -> Option<(SchemeName, &str)>
     ensures head { MatchOption result (NoHead text.now) (λ p. HasHead (solid text.now) p.0 (solid p.1.now)) }
-    ensures behind { IfSome result (λ p. list_all is_solid text.now ≡ true → list_all is_solid p.1.now ≡ true) }
+    ensures behind { IfSome result (λ p. (test : ℕ → Bool) → list_all test text.now ≡ true → list_all test p.1.now ≡ true) }
+{
+    match cut_usual_head(text) {
+        Some(found) => Some(found),
+        None => cut_any_head(text),
+    }
+}
+
+/// The same of a head in lower case and without blanks, which is told by comparison alone.
+fn cut_usual_head(text: &str) -> Option<(SchemeName, &str)>
+    ensures head { IfSome result (λ p. HasHead (solid text.now) p.0 (solid p.1.now)) }
+    ensures behind { IfSome result (λ p. (test : ℕ → Bool) → list_all test text.now ≡ true → list_all test p.1.now ≡ true) }
+{
+    let Some(named) = behind(text, "vers:") else {
+        return None;
+    };
+    let (front, behind) = cut(named, '/');
+    let Some(rest) = behind else {
+        return None;
+    };
+    match SchemeName::named(front) {
+        Some(name) => Some((name, rest)),
+        None => None,
+    }
+}
+
+/// The same of any head.
+fn cut_any_head(text: &str) -> Option<(SchemeName, &str)>
+    ensures head { MatchOption result (NoHead text.now) (λ p. HasHead (solid text.now) p.0 (solid p.1.now)) }
+    ensures behind { IfSome result (λ p. (test : ℕ → Bool) → list_all test text.now ≡ true → list_all test p.1.now ≡ true) }
 {
     let (front, behind) = cut(text, '/');
     let Some(rest) = behind else {

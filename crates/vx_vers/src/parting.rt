@@ -3,12 +3,19 @@ ghost use Rattle.std.specs.List.{list_all, list_any};
 ghost use Rattle.vx_spec.specs.Runs.{is_solid};
 ghost use Rattle.vx_vers.specs.Heads.{solid};
 ghost use Rattle.vx_vers.specs.Grammar.{IsSigned};
-ghost use Rattle.vx_vers.specs.Steps.Reading.{HasNoLongSign, is_some_part, is_star, parts_of};
+ghost use Rattle.vx_vers.specs.Steps.Reading.{HasNoLongSign, is_plain, is_some_part, is_star, parts_of};
 
 use crate::constraints::Comparator;
 use std::alloc::Global;
 use vx_scheme::{NoMemory, Text};
 use vx_text::{ByteClass, Solids, cut};
+
+/// Whether the text has no blank, `%` or `*`. It takes no memory.
+pub(crate) fn is_plain(text: &str) -> bool
+    ensures { result ≡ list_all is_plain text.now }
+{
+    text.as_bytes().iter().all(|byte| Solids::is_one(*byte) && *byte != b'%' && *byte != b'*')
+}
 
 /// Whether the text has no blank. It takes no memory.
 pub(crate) fn is_solid(text: &str) -> bool
@@ -51,6 +58,13 @@ pub(crate) fn count_parts(text: &str) -> usize
     text.split('|').filter(|part| !part.is_empty()).count()
 }
 
+/// How many bars there are. It takes no memory.
+pub(crate) fn count_bars(text: &str) -> usize
+    ensures { result ≡ count_by (λ b. b == 124) text.now }
+{
+    text.as_bytes().iter().filter(|byte| **byte == b'|').count()
+}
+
 /// Whether one of the parts between the bars is `*`. It takes no memory.
 pub(crate) fn has_star(text: &str) -> bool
     ensures { result ≡ list_any is_star (parts_of text.now) }
@@ -59,7 +73,7 @@ pub(crate) fn has_star(text: &str) -> bool
 }
 
 /// What stands behind the front, where the text begins with it.
-fn behind<'a>(text: &'a str, front: &str) -> Option<&'a str>
+pub(crate) fn behind<'a>(text: &'a str, front: &str) -> Option<&'a str>
     ensures { MatchOption result ((rest : List ℕ) → text.now ≢ front.now ++ rest) (λ rest. text.now ≡ front.now ++ rest.now) }
 {
     text.strip_prefix(front)

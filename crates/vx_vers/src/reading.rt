@@ -1,18 +1,21 @@
-ghost use Rattle.std.specs.Prelude.{◌≡◌, ◌≢◌, ◌<◌, ◌+◌, ◌^◌, ℕ, List, true, length, IfOk, IfErr, OnOk};
+ghost use Rattle.std.specs.Prelude.{◌≡◌, ◌≢◌, ◌<◌, ◌+◌, ◌^◌, ℕ, List, [], true, length, Err, IfOk, IfErr, IsTrue, OnOk};
 ghost use Rattle.std.specs.List.{list_all};
 ghost use Rattle.vx_spec.specs.Runs.{is_solid};
+ghost use Rattle.vx_text.specs.Escapes.{unescaped};
 ghost use Rattle.vx_vers.specs.declared.constraints.Constraint.{Constraint};
 ghost use Rattle.vx_vers.specs.declared.fault.VersFault.{VersFault};
 ghost use Rattle.vx_vers.specs.declared.fault.VersFault.TheVariants as fault_of;
 ghost use Rattle.vx_vers.specs.Again.{IsSameList};
-ghost use Rattle.vx_vers.specs.Grammar.{EachWithin, NoStar, SpellsList};
-ghost use Rattle.vx_vers.specs.Steps.Reading.{constraint_of_version, IsEachReadAs, IsPartReadAs, IsReadNext, IsSolidReadAs, IsWrittenReadAs, Refused, RefusesNext, written_in};
+ghost use Rattle.vx_vers.specs.Grammar.{EachWithin, HasForm, NoStar, SpellsList};
+ghost use Rattle.vx_vers.specs.Steps.Reading.{constraint_of_version, IsEachReadAs, IsPlainIf, IsPushed, IsReadNext, IsSolidReadAs, IsWrittenReadAs, Refused, RefusesNext, written_in};
 ghost use Rattle.vx_vers.specs.Refusals.{Refuses};
 
 use crate::constraints::{Comparator, Constraint, Constraints};
 use crate::fault::VersFault;
 use crate::naming::cut_head;
-use crate::parting::{count_parts, cut_sign, has_star, is_solid, without_blanks};
+use crate::parting::{
+    count_bars, count_parts, cut_sign, has_star, is_plain, is_solid, without_blanks,
+};
 use crate::sorting::settle;
 use crate::writing::write;
 use std::alloc::Global;
@@ -27,18 +30,26 @@ pub fn read<S: Scheme>(alloc: Global, text: &str) -> Result<Constraints<S>, Vers
     ensures ok { IfOk result (λ list. SpellsList S.name S.order S.Spells text.now list × EachWithin S.IsWithin list) }
     ensures err { IfErr result (λ fault. fault ≢ fault_of.NoMemory → Refuses S.name S.order S.Spells S.IsWithin text.now fault) }
 {
+    if is_plain(text) {
+        return read_solid::<S>(alloc, true, text);
+    }
     if is_solid(text) {
-        return read_solid::<S>(alloc, text);
+        return read_solid::<S>(alloc, false, text);
     }
     match without_blanks(alloc, text) {
-        Ok(plain) => read_solid::<S>(alloc, plain.as_str()),
+        Ok(out) => read_solid::<S>(alloc, false, out.as_str()),
         Err(_) => Err(VersFault::NoMemory),
     }
 }
 
-/// Reads a text without blanks.
-fn read_solid<S: Scheme>(alloc: Global, text: &str) -> Result<Constraints<S>, VersFault>
-    requires { list_all is_solid text.now ≡ true }
+/// Reads a text without blanks. Where it is known to be `plain`, no `*` or `%` is looked for.
+fn read_solid<S: Scheme>(
+    alloc: Global,
+    plain: bool,
+    text: &str,
+) -> Result<Constraints<S>, VersFault>
+    requires solid { list_all is_solid text.now ≡ true }
+    requires plain { IsPlainIf plain text.now }
     ensures { IsSolidReadAs S.name S.order S.Spells S.IsWithin text.now result }
 {
     let Some((name, behind)) = cut_head(text) else {
@@ -47,56 +58,66 @@ fn read_solid<S: Scheme>(alloc: Global, text: &str) -> Result<Constraints<S>, Ve
     if name != S::scheme() {
         return Err(VersFault::Head);
     }
-    read_written::<S>(alloc, behind)
+    read_written::<S>(alloc, plain, behind)
 }
 
 /// Reads the written constraints, which stand between bars.
-fn read_written<S: Scheme>(alloc: Global, text: &str) -> Result<Constraints<S>, VersFault>
+fn read_written<S: Scheme>(
+    alloc: Global,
+    plain: bool,
+    text: &str,
+) -> Result<Constraints<S>, VersFault>
+    requires { IsPlainIf plain text.now }
     ensures { IsWrittenReadAs S.order S.Spells S.IsWithin (written_in text.now) result }
 {
-    let count = count_parts(text);
-    if !has_star(text) {
-        return read_constraints::<S>(alloc, count, text);
+    if plain {
+        return read_constraints::<S>(alloc, true, text);
     }
-    if count == 1 {
+    if !has_star(text) {
+        return read_constraints::<S>(alloc, false, text);
+    }
+    if count_parts(text) == 1 {
         Ok(Constraints::new(alloc))
     } else {
         Err(VersFault::StarNotAlone)
     }
 }
 
-/// Reads so many written constraints, none of which is `*`.
+/// Reads written constraints, none of which is `*`.
 fn read_constraints<S: Scheme>(
     alloc: Global,
-    count: usize,
+    plain: bool,
     text: &str,
 ) -> Result<Constraints<S>, VersFault>
-    requires count { count ≡ length (written_in text.now) }
+    requires plain { IsPlainIf plain text.now }
     requires stars { NoStar (written_in text.now) }
     ensures { IsWrittenReadAs S.order S.Spells S.IsWithin (written_in text.now) result }
 {
-    if count == 0 {
-        return Err(VersFault::Constraint(1));
-    }
-    match read_each::<S>(alloc, count, text) {
-        Ok(list) => settle::<S>(list),
-        Err(fault) => Err(fault),
+    let list = match read_each::<S>(alloc, plain, text) {
+        Ok(list) => list,
+        Err(fault) => return Err(fault),
+    };
+    if list.is_empty() {
+        Err(VersFault::Constraint(1))
+    } else {
+        settle::<S>(list)
     }
 }
 
-/// The constraints between the bars, in the order of the text, with room for so many.
+/// The constraints between the bars, in the order of the text. An empty part has room that it does not need.
 fn read_each<S: Scheme>(
     alloc: Global,
-    count: usize,
+    plain: bool,
     text: &str,
 ) -> Result<List<Constraint<S::Version>>, VersFault>
+    requires { IsPlainIf plain text.now }
     ensures { IsEachReadAs S.Spells S.IsWithin (written_in text.now) result }
 {
-    let mut list = List::with_room(alloc, count)?;
+    let mut list = List::with_room(alloc, count_bars(text) + 1)?;
     let mut rest = Some(text);
     'parts: while let Some(more) = rest {
         let (part, behind) = cut(more, '|');
-        push_next::<S>(alloc, &mut list, part)?;
+        push_next::<S>(alloc, plain, &mut list, part)?;
         rest = behind;
     }
     Ok(list)
@@ -105,58 +126,76 @@ fn read_each<S: Scheme>(
 /// Reads one text more, unless it is empty, and appends its constraint.
 fn push_next<S: Scheme>(
     alloc: Global,
+    plain: bool,
     list: &mut List<Constraint<S::Version>>,
     part: &str,
 ) -> Result<(), VersFault>
-    requires { length list.old + 1 < 2 ^ 64 }
+    requires plain { IsPlainIf plain part.now }
+    requires room { length list.old + 1 < 2 ^ 64 }
     ensures ok { OnOk result (IsReadNext S.Spells S.IsWithin part.now list.old list.new) }
     ensures err { IfErr result (λ fault. Refused (RefusesNext S.Spells S.IsWithin part.now list.old) fault) }
 {
     if part.is_empty() {
         return Ok(());
     }
-    let number = list.len() as u64 + 1;
-    let constraint = read_part::<S>(alloc, number, part)?;
-    list.push(constraint)?;
-    Ok(())
+    push_part::<S>(alloc, plain, list, part)
 }
 
-/// The constraint of the text with this number.
-fn read_part<S: Scheme>(
+/// Reads one text more, which is not empty, and appends its constraint.
+fn push_part<S: Scheme>(
     alloc: Global,
-    number: u64,
+    plain: bool,
+    list: &mut List<Constraint<S::Version>>,
     part: &str,
-) -> Result<Constraint<S::Version>, VersFault>
-    ensures { IsPartReadAs S.Spells S.IsWithin (number, part.now) result }
+) -> Result<(), VersFault>
+    requires plain { IsPlainIf plain part.now }
+    requires room { length list.old + 1 < 2 ^ 64 }
+    requires some { part.now ≢ [] }
+    ensures ok { OnOk result (IsReadNext S.Spells S.IsWithin part.now list.old list.new) }
+    ensures err { IfErr result (λ fault. Refused (RefusesNext S.Spells S.IsWithin part.now list.old) fault) }
 {
+    let number = list.len() as u64 + 1;
     let (comparator, raw) = cut_sign(part);
     if raw.is_empty() {
         return Err(VersFault::Constraint(number));
     }
-    if is_left(raw.as_bytes()) {
-        return constraint_of_version(comparator, number, S::read(alloc, raw));
+    if stands_for_itself(plain, raw) {
+        return push_read(list, comparator, number, S::read(alloc, raw));
     }
     match unescape(alloc, raw) {
-        Ok(plain) => constraint_of_version(comparator, number, S::read(alloc, plain.as_str())),
+        Ok(text) => push_read(list, comparator, number, S::read(alloc, text.as_str())),
         Err(EscapeFault::BadEscape(_)) => Err(VersFault::Constraint(number)),
         Err(EscapeFault::NotText) => Err(VersFault::Constraint(number)),
         Err(EscapeFault::NoMemory) => Err(VersFault::NoMemory),
     }
 }
 
-/// The constraint of a version that was read, or the fault of the constraint with this number.
-fn constraint_of_version<V: Drop>(
+/// Whether the text is known to have no escape.
+fn stands_for_itself(plain: bool, raw: &str) -> bool
+    requires { IsPlainIf plain raw.now }
+    ensures { IsTrue result → raw.now ≢ [] → HasForm raw.now × (unescaped raw.now ≡ raw.now) }
+{
+    if plain { true } else { is_left(raw.as_bytes()) }
+}
+
+/// Appends the constraint of a version that was read, or answers the fault of the constraint with this number.
+fn push_read<V: Drop>(
+    list: &mut List<Constraint<V>>,
     comparator: Comparator,
     number: u64,
     version: Result<V, VersionFault>,
-) -> Result<Constraint<V>, VersFault>
-    ensures { result ≡ constraint_of_version comparator number version }
+) -> Result<(), VersFault>
+    ensures ok { OnOk result (IsPushed (constraint_of_version comparator number version) list.old list.new) }
+    ensures err { IfErr result (λ fault. Refused (λ f. constraint_of_version comparator number version ≡ Err f) fault) }
 {
     match version {
-        Ok(version) => Ok(Constraint {
-            comparator,
-            version,
-        }),
+        Ok(version) => {
+            list.push(Constraint {
+                comparator,
+                version,
+            })?;
+            Ok(())
+        }
         Err(VersionFault::NotAVersion) => Err(VersFault::Version(number)),
         Err(VersionFault::Numeral) => Err(VersFault::Numeral(number)),
         Err(VersionFault::NoMemory) => Err(VersFault::NoMemory),

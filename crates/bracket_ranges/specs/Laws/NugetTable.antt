@@ -6,8 +6,10 @@ use Rattle.std.proofs.lemmas.Bool.{and_parts}
 use Rattle.std.proofs.lemmas.Bool.Decides.{nat_tests}
 use Rattle.vx_spec.specs.Numerals.{is_numeral}
 use Rattle.vx_spec.proofs.TextLaws.{each_append, each_by_test, each_joined, each_part, test_by_each}
-use Rattle.nuget_scheme.specs.Version.{Fields, dot, hyphen, is_label, is_label_byte}
-use Rattle.nuget_scheme.specs.Spelling.{Spells, plus, tail}
+use Rattle.vx_order.specs.Dotted.{dot, hyphen, plus, tail}
+use Rattle.vx_order.specs.Identifiers.{is_identifier, is_identifier_byte}
+use Rattle.nuget_scheme.specs.Version.{Fields}
+use Rattle.nuget_scheme.specs.Spelling.{Spells}
 use Rattle.bracket_ranges.specs.Words.{IsWord, is_word_byte}
 
 abbrev IsWordByte : ℕ → Type 0
@@ -16,14 +18,14 @@ IsWordByte b = is_word_byte b ≡ true
 digit_word : (b : ℕ) → is_ascii_digit b ≡ true → is_word_byte b ≡ true
 digit_word b is = grind (arith, nat_tests)
 
-label_byte_word : (b : ℕ) → is_label_byte b ≡ true → is_word_byte b ≡ true
+label_byte_word : (b : ℕ) → is_identifier_byte b ≡ true → is_word_byte b ≡ true
 label_byte_word b is = grind (arith, nat_tests)
 
 numeral_word : (text : List ℕ) → is_numeral text ≡ true → AllByRecursion IsWordByte text
 numeral_word text is = each_by_test IsWordByte is_ascii_digit text digit_word (and_parts (nat_lt 0 (length text)) (list_all is_ascii_digit text) is).1
 
-label_word : (text : List ℕ) → is_label text ≡ true → AllByRecursion IsWordByte text
-label_word text is = each_by_test IsWordByte is_label_byte text label_byte_word (and_parts (nat_lt 0 (length text)) (list_all is_label_byte text) is).1
+label_word : (text : List ℕ) → is_identifier text ≡ true → AllByRecursion IsWordByte text
+label_word text is = each_by_test IsWordByte is_identifier_byte text label_byte_word (and_parts (nat_lt 0 (length text)) (list_all is_identifier_byte text) is).1
 
 tail_word : (mark : ℕ) → is_word_byte mark ≡ true → (xs : List (List ℕ)) → AllByRecursion (AllByRecursion IsWordByte) xs → AllByRecursion IsWordByte (tail mark xs)
 tail_word mark word [] all = tt
@@ -34,8 +36,8 @@ spelled_bytes : (text : List ℕ) (v : Fields) → Spells text v → AllByRecurs
 spelled_bytes text v s =
     let p = s.parts in
     let numbers = each_joined IsWordByte dot refl p.numbers (each_part IsWordByte is_numeral p.numbers numeral_word s.form.numerals) in
-    let labels = tail_word hyphen refl p.labels (each_part IsWordByte is_label p.labels label_word s.form.labels) in
-    let build = tail_word plus refl p.build (each_part IsWordByte is_label p.build label_word s.form.build) in
+    let labels = tail_word hyphen refl p.labels (each_part IsWordByte is_identifier p.labels label_word s.form.labels) in
+    let build = tail_word plus refl p.build (each_part IsWordByte is_identifier p.build label_word s.form.build) in
     subst (AllByRecursion IsWordByte) (sym s.joined)
     (each_append IsWordByte (join_with_byte dot p.numbers ++ tail hyphen p.labels) (tail plus p.build)
     (each_append IsWordByte (join_with_byte dot p.numbers) (tail hyphen p.labels) numbers labels) build)

@@ -12,11 +12,13 @@ use Rattle.vx_spec.proofs.RunLaws.{run_all, run_step}
 use Rattle.vx_scheme.specs.Scheme.{TextLaws}
 use Rattle.vx_scheme.specs.declared.ident.Ident.{Ident}
 use Rattle.vx_scheme.specs.declared.ident.Ident.TheVariants.{Number, Word}
+use Rattle.vx_order.specs.Laws.Scanning.{token_number, token_other, token_word}
+use Rattle.vx_order.specs.Scanning.{behind_token, scanned_in}
 use Rattle.gem_scheme.specs.Version.{Fields, IsVersion, IsWithin, begins_with_number, is_segment}
-use Rattle.gem_scheme.specs.Spelling.{Parts, Spells, dot, hyphen, is_piece, tail, segments_of, scanned_in, first_segments, behind_first, written_out}
+use Rattle.gem_scheme.specs.Spelling.{Parts, Spells, dot, hyphen, is_piece, tail, segments_of, first_segments, written_out}
 use Rattle.gem_scheme.specs.Writing.{segment_text, normal}
 use Rattle.gem_scheme.specs.Order.{order_of, order_total}
-use Rattle.gem_scheme.specs.Laws.Scanning.{first_digits, first_word, first_sign, of_digits, digits_in_front, word_in_front, dot_in_front}
+use Rattle.gem_scheme.specs.Laws.Scanning.{of_digits, digits_in_front, word_in_front, dot_in_front}
 
 -- ---- the segments of the normal text are the version's
 
@@ -114,10 +116,10 @@ word_is b text letter =
 
 first_are : (b : ℕ) (text : List ℕ) → list_all is_segment (first_segments (b ∷ text)) ≡ true
 first_are b text = elim (cases_Bool (is_ascii_digit b)) [
-  | inl digit ↦ ap (list_all is_segment) (first_digits b text digit)
+  | inl digit ↦ ap (list_all is_segment) (token_number Number Word (λ c. []) b text digit)
   | inr other ↦ elim (cases_Bool (is_ascii_alphabetic b)) [
-    | inl letter ↦ ap (list_all is_segment) (first_word b text other letter) ∙ and_from (is_segment (Word (run is_ascii_alphabetic (b ∷ text)))) true (word_is b text letter) refl
-    | inr sign ↦ ap (list_all is_segment) (first_sign b text other sign)
+    | inl letter ↦ ap (list_all is_segment) (token_word Number Word (λ c. []) b text other letter) ∙ and_from (is_segment (Word (run is_ascii_alphabetic (b ∷ text)))) true (word_is b text letter) refl
+    | inr sign ↦ ap (list_all is_segment) (token_other Number Word (λ c. []) b text other sign)
   ]
 ]
 
@@ -127,10 +129,10 @@ all_append (x ∷ xs) ys p q =
     let a = and_parts (is_segment x) (list_all is_segment xs) p in
     and_from (is_segment x) (list_all is_segment (xs ++ ys)) a.0 (all_append xs ys a.1 q)
 
-scanned_are : (n : ℕ) (text : List ℕ) → list_all is_segment (scanned_in n text) ≡ true
+scanned_are : (n : ℕ) (text : List ℕ) → list_all is_segment (scanned_in first_segments behind_token n text) ≡ true
 scanned_are zero text = refl
 scanned_are (suc n) [] = refl
-scanned_are (suc n) (b ∷ text) = all_append (first_segments (b ∷ text)) (scanned_in n (behind_first (b ∷ text))) (first_are b text) (scanned_are n (behind_first (b ∷ text)))
+scanned_are (suc n) (b ∷ text) = all_append (first_segments (b ∷ text)) (scanned_in first_segments behind_token n (behind_token (b ∷ text))) (first_are b text) (scanned_are n (behind_token (b ∷ text)))
 
 begun : (number behind : List ℕ) → is_numeral number ≡ true → begins_with_number (segments_of (number ++ behind)) ≡ true
 begun [] behind is = cc is

@@ -13,10 +13,11 @@ use Rattle.vx_spec.proofs.EachLaws.{each_behind}
 use Rattle.vx_spec.proofs.TextLaws.{each_by_test, each_joined, each_part}
 use Rattle.vx_range.specs.Pieces.{Written}
 use Rattle.vx_range.specs.Reading.{PieceLaws}
+use Rattle.vx_order.specs.Dotted.{tail}
+use Rattle.vx_order.specs.PastParts.{first_past_part}
 use Rattle.npm_scheme.specs.Version.{Fields, without_build}
-use Rattle.npm_scheme.specs.Spelling.{Parts, Spells, is_plain_numeral, has_leading_zero, core, tail, whole, version_of}
+use Rattle.npm_scheme.specs.Spelling.{Parts, Spells, is_plain_numeral, has_leading_zero, core, whole, version_of}
 use Rattle.npm_scheme.specs.Written.{IsVersionWritten}
-use Rattle.npm_scheme.specs.Past.{first_past_part}
 use Rattle.npm_scheme.specs.Laws.Unique.{one_parts, one_reading}
 use Rattle.npm_range.specs.declared.cutting.Kind.{Kind}
 use Rattle.npm_range.specs.declared.cutting.Kind.TheVariants.{Plain, Low, High}

@@ -13,8 +13,10 @@ use Rattle.vx_spec.proofs.RunLaws.{one_run, run_step, run_stays}
 use Rattle.vx_spec.specs.Each.{AreEach}
 use Rattle.vx_range.specs.Pieces.{Written}
 use Rattle.vx_spec.proofs.TextLaws.{each_by_test, each_append, each_joined, each_part, test_by_each}
-use Rattle.npm_scheme.specs.Version.{Fields, IsVersion, is_identifier_byte, is_build_identifier, without_build}
-use Rattle.npm_scheme.specs.Spelling.{Parts, AreVersionParts, whole, core, tail, is_plain_numeral, is_pre_identifier, has_leading_zero}
+use Rattle.vx_order.specs.Dotted.{tail}
+use Rattle.vx_order.specs.Identifiers.{is_identifier, is_identifier_byte}
+use Rattle.npm_scheme.specs.Version.{Fields, IsVersion, without_build}
+use Rattle.npm_scheme.specs.Spelling.{Parts, AreVersionParts, whole, core, is_plain_numeral, is_pre_identifier, has_leading_zero}
 use Rattle.npm_scheme.specs.Writing.{normal}
 use Rattle.npm_scheme.specs.Laws.Texts.{normal_is}
 use Rattle.npm_range.specs.declared.construct.Construct.{Construct}
@@ -72,11 +74,11 @@ not_blank b is = elim (cases_Bool (is_blank b)) [
 numeral_bytes : (x : List ℕ) → is_plain_numeral x ≡ true → AllByRecursion IsInner x
 numeral_bytes x is = each_by_test IsInner is_ascii_digit x inner_digit (and_parts _ (list_all is_ascii_digit x) (and_parts (is_numeral x) (not (has_leading_zero x)) is).0).1
 
-build_bytes : (x : List ℕ) → is_build_identifier x ≡ true → AllByRecursion IsInner x
+build_bytes : (x : List ℕ) → is_identifier x ≡ true → AllByRecursion IsInner x
 build_bytes x is = each_by_test IsInner is_identifier_byte x inner_identifier (and_parts _ (list_all is_identifier_byte x) is).1
 
 pre_bytes : (x : List ℕ) → is_pre_identifier x ≡ true → AllByRecursion IsInner x
-pre_bytes x is = build_bytes x (and_parts (is_build_identifier x) (not (is_numeral x && has_leading_zero x)) is).0
+pre_bytes x is = build_bytes x (and_parts (is_identifier x) (not (is_numeral x && has_leading_zero x)) is).0
 
 tail_bytes : (mark : ℕ) (xs : List (List ℕ)) → IsInner mark → AllByRecursion (AllByRecursion IsInner) xs → AllByRecursion IsInner (tail mark xs)
 tail_bytes mark [] one p = tt
@@ -88,7 +90,7 @@ whole_bytes p f =
     let first = each_append IsInner p.major (46 ∷ (p.minor ++ (46 ∷ p.patch))) (numeral_bytes p.major f.major)
     (dot, each_append IsInner p.minor (46 ∷ p.patch) (numeral_bytes p.minor f.minor) (dot, numeral_bytes p.patch f.patch)) in
     let second = tail_bytes 45 p.pre (record { ascii = lit< tt; solid = refl; bar = refl }) (each_part IsInner is_pre_identifier p.pre pre_bytes f.pre) in
-    let third = tail_bytes 43 p.build (record { ascii = lit< tt; solid = refl; bar = refl }) (each_part IsInner is_build_identifier p.build build_bytes f.build) in
+    let third = tail_bytes 43 p.build (record { ascii = lit< tt; solid = refl; bar = refl }) (each_part IsInner is_identifier p.build build_bytes f.build) in
     each_append IsInner (core p.major p.minor p.patch ++ tail 45 p.pre) (tail 43 p.build) (each_append IsInner (core p.major p.minor p.patch) (tail 45 p.pre) first second) third
 
 -- Words.

@@ -1,7 +1,7 @@
 -- One to three numbers, from left to right.
 use Rattle.std.specs.Prelude.{◌≡◌, ◌+◌, ◌<◌, ◌^◌, ℕ, true, List, [], ◌∷◌, length, Option, Some, None, Result, Ok, Err}
 use Rattle.std.specs.List.{list_all}
-use Rattle.npm_scheme.specs.Past.{first_past_part}
+use Rattle.vx_order.specs.PastParts.{first_past_part}
 use Rattle.npm_range.specs.declared.construct.Partial.{Partial}
 use Rattle.npm_range.specs.declared.partials.Numbers.{Numbers}
 use Rattle.npm_range.specs.Reading.{is_number, numbers, before_any, values, partial_of}

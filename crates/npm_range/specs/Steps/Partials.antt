@@ -3,9 +3,10 @@ use Rattle.std.specs.Prelude.{◌≡◌, ℕ, List, Option, Some, None}
 use Rattle.vx_range.specs.declared.piece.PieceReading.{PieceReading}
 use Rattle.vx_range.specs.declared.piece.PieceReading.TheVariants.{Construct, Past, NoConstruct}
 use Rattle.vx_range.specs.Pieces.{Written}
+use Rattle.vx_order.specs.PastParts.{first_past_part}
 use Rattle.npm_scheme.specs.Version.{without_build}
 use Rattle.npm_scheme.specs.Spelling.{Parts, version_of}
-use Rattle.npm_scheme.specs.Past.{first_past_part, past_numeral_of}
+use Rattle.npm_scheme.specs.Past.{past_numeral_of}
 use Rattle.npm_range.specs.declared.cutting.Kind.{Kind}
 use Rattle.npm_range.specs.declared.construct.Operator.{Operator}
 use Rattle.npm_range.specs.declared.construct.Partial.{Partial}

@@ -1,7 +1,6 @@
 -- What texts spell, and which: exactly the versions.
 use Rattle.std.proofs.Common.{◌≡◌, ◌≢◌, ℕ, List, [], ◌∷◌, ◌++◌, length, get_or, map, true, false, not, eqb, refl, sym, inl, inr, arith, append-nil}
 use Rattle.std.specs.List.{list_all, join_with_byte}
-use Rattle.std.specs.Char.{is_ascii_digit}
 use Rattle.std.specs.Cmp.{tied_itself}
 use Rattle.std.proofs.lemmas.Bool.{cases_Bool, and_parts, and_from, not-true, not_from_false, eqb-true, le-ltb}
 use Rattle.std.proofs.lemmas.List.Splits.{join_with_byte-slice_split}
@@ -11,11 +10,15 @@ use Rattle.vx_text.proofs.Joins.{split_join}
 use Rattle.vx_scheme.specs.declared.ident.Ident.{Ident}
 use Rattle.vx_scheme.specs.declared.ident.Ident.TheVariants.{Number, Word}
 use Rattle.vx_scheme.specs.Scheme.{IsSpelled, NormalSpells, TextLaws}
-use Rattle.npm_scheme.specs.Version.{Fields, IsWithin, IsVersion, dot, hyphen, is_ident, build_pieces, is_build_identifier, is_identifier_byte, without_build}
-use Rattle.npm_scheme.specs.Spelling.{Parts, AreVersionParts, Spells, tail, whole, zero_digit, has_leading_zero, is_plain_numeral, is_pre_identifier, identifier_of, version_of}
-use Rattle.npm_scheme.specs.Writing.{identifier_text, normal}
+use Rattle.vx_order.specs.Dotted.{dot, hyphen, tail}
+use Rattle.vx_order.specs.Identifiers.{identifier_text, is_ident, is_identifier}
+use Rattle.vx_order.specs.Laws.Dotted.{identifiers_lack}
+use Rattle.vx_order.specs.Laws.Identifiers.{again, all_again, formed_idents}
+use Rattle.npm_scheme.specs.Version.{Fields, IsWithin, IsVersion, build_pieces, without_build}
+use Rattle.npm_scheme.specs.Spelling.{Parts, AreVersionParts, Spells, whole, zero_digit, has_leading_zero, is_plain_numeral, is_pre_identifier, version_of}
+use Rattle.npm_scheme.specs.Writing.{normal}
 use Rattle.npm_scheme.specs.Order.{order_of, order_total}
-use Rattle.npm_scheme.specs.Laws.Unique.{one_reading, identifiers_lack, build_bytes}
+use Rattle.npm_scheme.specs.Laws.Unique.{one_reading, pre_identifiers}
 
 -- the numeral of a number has no leading zeros
 pub has_leading_zero-numeral_text : (n : ℕ) → has_leading_zero (numeral_text n) ≡ false
@@ -27,53 +30,27 @@ has_leading_zero-numeral_text n = elim (cases_Bool (eqb (get_or (numeral_text n)
 pub is_plain_numeral-numeral_text : (n : ℕ) → is_plain_numeral (numeral_text n) ≡ true
 is_plain_numeral-numeral_text n = and_from _ _ (numeral_text_is n) (not_from_false _ (has_leading_zero-numeral_text n))
 
-digit_byte : (b : ℕ) → is_ascii_digit b ≡ true → is_identifier_byte b ≡ true
-digit_byte b d = rw d refl
+-- an identifier's text is a pre-release identifier's
+pre_again : (i : Ident) → is_ident i ≡ true → is_pre_identifier (identifier_text i) ≡ true
+pre_again (Number n) is = and_from _ _ (again (Number n) is).0 (rw (numeral_text_is n, has_leading_zero-numeral_text n) refl)
+pre_again (Word w) is =
+    let parts = and_parts (is_identifier w) (not (is_numeral w)) is in
+    and_from _ _ parts.0 (rw (not-true (is_numeral w) parts.1) refl)
 
-digit_bytes : (t : List ℕ) → list_all is_ascii_digit t ≡ true → list_all is_identifier_byte t ≡ true
-digit_bytes [] all = refl
-digit_bytes (b ∷ t) all = let a = and_parts _ _ all in and_from _ _ (digit_byte b a.0) (digit_bytes t a.1)
+all_pre_again : (pre : List Ident) → list_all is_ident pre ≡ true → list_all is_pre_identifier (map identifier_text pre) ≡ true
+all_pre_again [] all = refl
+all_pre_again (i ∷ pre) all = let a = and_parts _ _ all in and_from _ _ (pre_again i a.0) (all_pre_again pre a.1)
 
--- an identifier's text is written as one that stands for it again
-again : (i : Ident) → is_ident i ≡ true → (is_pre_identifier (identifier_text i) ≡ true) × (identifier_of (identifier_text i) ≡ i)
-again (Number n) is =
-    let parts = and_parts _ _ (numeral_text_is n) in
-    (and_from _ _ (and_from _ _ parts.0 (digit_bytes (numeral_text n) parts.1)) (rw (numeral_text_is n, has_leading_zero-numeral_text n) refl), rw (numeral_text_is n, value-numeral_text n) refl)
-again (Word w) is =
-    let parts = and_parts (is_build_identifier w) (not (is_numeral w)) is in
-    let other = not-true (is_numeral w) parts.1 in
-    (and_from _ _ parts.0 (rw other refl), rw other refl)
-
-all_again : (pre : List Ident) → list_all is_ident pre ≡ true
-    → (list_all is_pre_identifier (map identifier_text pre) ≡ true) × (map identifier_of (map identifier_text pre) ≡ pre)
-all_again [] all = (refl, refl)
-all_again (i ∷ pre) all =
-    let a = and_parts _ _ all in
-    let first = again i a.0 in
-    let rest = all_again pre a.1 in
-    (and_from _ _ first.0 rest.0, cc (first.1, rest.1))
-
--- what a piece stands for is an identifier
-formed_ident : (t : List ℕ) → is_pre_identifier t ≡ true → is_ident (identifier_of t) ≡ true
-formed_ident t is = elim (cases_Bool (is_numeral t)) [
-  | inl number ↦ rw number refl
-  | inr word ↦ rw word (and_from (is_build_identifier t) (not (is_numeral t)) (and_parts _ _ is).0 (rw word refl))
-]
-
-formed_idents : (ts : List (List ℕ)) → list_all is_pre_identifier ts ≡ true → list_all is_ident (map identifier_of ts) ≡ true
-formed_idents [] all = refl
-formed_idents (t ∷ ts) all = let a = and_parts _ _ all in and_from _ _ (formed_ident t a.0) (formed_idents ts a.1)
-
-not_blank : (byte : List ℕ) → is_build_identifier byte ≡ true → byte ≢ []
+not_blank : (byte : List ℕ) → is_identifier byte ≡ true → byte ≢ []
 not_blank [] is e = cc is
 not_blank (x ∷ t) is e = cc e
 
 -- cutting a build undoes joining it
-build_again : (ts : List (List ℕ)) → list_all is_build_identifier ts ≡ true → build_pieces (join_with_byte dot ts) ≡ ts
+build_again : (ts : List (List ℕ)) → list_all is_identifier ts ≡ true → build_pieces (join_with_byte dot ts) ≡ ts
 build_again [] all = refl
-build_again ([] ∷ ts) all = absurd (not_blank [] (and_parts (is_build_identifier []) (list_all is_build_identifier ts) all).0 refl)
-build_again ((x ∷ t) ∷ []) all = split_join dot (x ∷ t) [] (identifiers_lack is_build_identifier dot refl build_bytes ((x ∷ t) ∷ []) all)
-build_again ((x ∷ t) ∷ u ∷ us) all = split_join dot (x ∷ t) (u ∷ us) (identifiers_lack is_build_identifier dot refl build_bytes ((x ∷ t) ∷ u ∷ us) all)
+build_again ([] ∷ ts) all = absurd (not_blank [] (and_parts (is_identifier []) (list_all is_identifier ts) all).0 refl)
+build_again ((x ∷ t) ∷ []) all = split_join dot (x ∷ t) [] (identifiers_lack dot refl ((x ∷ t) ∷ []) all)
+build_again ((x ∷ t) ∷ u ∷ us) all = split_join dot (x ∷ t) (u ∷ us) (identifiers_lack dot refl ((x ∷ t) ∷ u ∷ us) all)
 
 joined_again : (build : List ℕ) → join_with_byte dot (build_pieces build) ≡ build
 joined_again [] = refl
@@ -81,14 +58,14 @@ joined_again (b ∷ build) = join_with_byte-slice_split dot (b ∷ build)
 
 -- parts that have the form give a version
 pub formed : (p : Parts) → AreVersionParts p → IsVersion (version_of p)
-formed p form = record { pre = formed_idents p.pre form.pre; build = rw (build_again p.build form.build) form.build }
+formed p form = record { pre = formed_idents p.pre (pre_identifiers p.pre form.pre); build = rw (build_again p.build form.build) form.build }
 
 parts_with : Fields → List (List ℕ) → Parts
 parts_with v build = record { major = numeral_text v.major; minor = numeral_text v.minor; patch = numeral_text v.patch; pre = map identifier_text v.pre; build = build }
 
-with_form : (v : Fields) (build : List (List ℕ)) → IsVersion v → list_all is_build_identifier build ≡ true → AreVersionParts (parts_with v build)
+with_form : (v : Fields) (build : List (List ℕ)) → IsVersion v → list_all is_identifier build ≡ true → AreVersionParts (parts_with v build)
 unfolding parts_with
-with_form v build is all = record { major = is_plain_numeral-numeral_text v.major; minor = is_plain_numeral-numeral_text v.minor; patch = is_plain_numeral-numeral_text v.patch; pre = (all_again v.pre is.pre).0; build = all }
+with_form v build is all = record { major = is_plain_numeral-numeral_text v.major; minor = is_plain_numeral-numeral_text v.minor; patch = is_plain_numeral-numeral_text v.patch; pre = all_pre_again v.pre is.pre; build = all }
 
 pub version_spelled : (v : Fields) → IsVersion v → IsSpelled Spells v
 unfolding parts_with

@@ -1,55 +1,18 @@
 -- What texts spell, and which: exactly the versions.
-use Rattle.std.proofs.Common.{◌≡◌, ◌≢◌, ℕ, zero, suc, List, [], ◌∷◌, ◌++◌, length, map, true, not, nat_lt, refl, sym, inl, inr, arith, append-nil}
+use Rattle.std.proofs.Common.{◌≡◌, ◌≢◌, ℕ, zero, suc, List, [], ◌∷◌, ◌++◌, length, map, true, nat_lt, refl, sym, arith, append-nil}
 use Rattle.std.specs.List.{list_all}
-use Rattle.std.specs.Char.{is_ascii_digit}
 use Rattle.std.specs.Cmp.{tied_itself}
-use Rattle.std.proofs.lemmas.Bool.{cases_Bool, and_parts, and_from, not-true, lt-ltb, ne_eqb}
+use Rattle.std.proofs.lemmas.Bool.{and_from, lt-ltb, ne_eqb}
 use Rattle.vx_spec.specs.Numerals.{is_numeral, numeral_text}
 use Rattle.vx_spec.proofs.NumeralLaws.{numeral_text_is, value-numeral_text}
-use Rattle.vx_scheme.specs.declared.ident.Ident.{Ident}
-use Rattle.vx_scheme.specs.declared.ident.Ident.TheVariants.{Number, Word}
 use Rattle.vx_scheme.specs.Scheme.{IsSpelled, NormalSpells, TextLaws}
-use Rattle.nuget_scheme.specs.Version.{Fields, IsVersion, IsWithin, is_ident, is_label, is_label_byte}
-use Rattle.nuget_scheme.specs.Spelling.{Parts, AreVersionParts, Spells, label_of, number_at, version_of}
-use Rattle.nuget_scheme.specs.Writing.{fourth_part, label_text, normal, numbers}
+use Rattle.vx_order.specs.Identifiers.{identifier_text}
+use Rattle.vx_order.specs.Laws.Identifiers.{all_again, formed_idents}
+use Rattle.nuget_scheme.specs.Version.{Fields, IsVersion, IsWithin}
+use Rattle.nuget_scheme.specs.Spelling.{Parts, AreVersionParts, Spells, number_at, version_of}
+use Rattle.nuget_scheme.specs.Writing.{fourth_part, normal, numbers}
 use Rattle.nuget_scheme.specs.Order.{order_of, order_total}
 use Rattle.nuget_scheme.specs.Laws.Unique.{one_reading}
-
-digit_byte : (b : ℕ) → is_ascii_digit b ≡ true → is_label_byte b ≡ true
-digit_byte b d = rw d refl
-
-digit_bytes : (t : List ℕ) → list_all is_ascii_digit t ≡ true → list_all is_label_byte t ≡ true
-digit_bytes [] all = refl
-digit_bytes (b ∷ t) all = let a = and_parts _ _ all in and_from _ _ (digit_byte b a.0) (digit_bytes t a.1)
-
--- a label's text is written as one that stands for it again
-again : (i : Ident) → is_ident i ≡ true → (is_label (label_text i) ≡ true) × (label_of (label_text i) ≡ i)
-again (Number n) is =
-    let parts = and_parts _ _ (numeral_text_is n) in
-    (and_from _ _ parts.0 (digit_bytes (numeral_text n) parts.1), rw (numeral_text_is n, value-numeral_text n) refl)
-again (Word w) is =
-    let parts = and_parts (is_label w) (not (is_numeral w)) is in
-    (parts.0, rw (not-true (is_numeral w) parts.1) refl)
-
-all_again : (labels : List Ident) → list_all is_ident labels ≡ true
-    → (list_all is_label (map label_text labels) ≡ true) × (map label_of (map label_text labels) ≡ labels)
-all_again [] all = (refl, refl)
-all_again (i ∷ labels) all =
-    let a = and_parts _ _ all in
-    let first = again i a.0 in
-    let rest = all_again labels a.1 in
-    (and_from _ _ first.0 rest.0, cc (first.1, rest.1))
-
--- what a piece stands for is a label
-formed_ident : (t : List ℕ) → is_label t ≡ true → is_ident (label_of t) ≡ true
-formed_ident t is = elim (cases_Bool (is_numeral t)) [
-  | inl number ↦ rw number refl
-  | inr word ↦ rw word (and_from (is_label t) (not (is_numeral t)) is (rw word refl))
-]
-
-formed_idents : (ts : List (List ℕ)) → list_all is_label ts ≡ true → list_all is_ident (map label_of ts) ≡ true
-formed_idents [] all = refl
-formed_idents (t ∷ ts) all = let a = and_parts _ _ all in and_from _ _ (formed_ident t a.0) (formed_idents ts a.1)
 
 -- parts that have the form give a version
 pub formed : (p : Parts) → AreVersionParts p → IsVersion (version_of p)
@@ -57,7 +20,7 @@ formed p form = record { labels = formed_idents p.labels form.labels }
 
 -- the parts of the normal text
 abbrev normal_parts : Fields → Parts
-normal_parts v = record { numbers = map numeral_text (numbers v); labels = map label_text v.labels; build = [] }
+normal_parts v = record { numbers = map numeral_text (numbers v); labels = map identifier_text v.labels; build = [] }
 
 numeral_texts : (ns : List ℕ) → list_all is_numeral (map numeral_text ns) ≡ true
 numeral_texts [] = refl

@@ -1,20 +1,12 @@
 -- The parts of a text as the program holds them: what stands between two signs still joined.
-use Rattle.std.specs.Prelude.{◌≡◌, ◌==◌, ◌&&◌, ◌<◌, ◌^◌, nat_lt, Bool, List, [], ◌∷◌, length, ℕ, Option, Some, None}
+use Rattle.std.specs.Prelude.{◌≡◌, ◌&&◌, ◌<◌, ◌^◌, nat_lt, Bool, List, [], ◌∷◌, length, ℕ}
 use Rattle.std.specs.Option.{option_copied}
-use Rattle.std.specs.List.{list_all, slice_split}
+use Rattle.std.specs.List.{list_all}
 use Rattle.vx_spec.specs.Numerals.{is_numeral, value}
-use Rattle.nuget_scheme.specs.Version.{dot, is_label}
+use Rattle.vx_order.specs.Dotted.{dotted, pieces}
+use Rattle.vx_order.specs.Identifiers.{is_identifier}
 use Rattle.nuget_scheme.specs.Spelling.{Parts, AreVersionParts, whole}
 use Rattle.nuget_scheme.specs.declared.spelling.Written.{Written}
-
--- the parts between the dots of a text
-abbrev pub dotted : List ℕ → List (List ℕ)
-dotted text = slice_split (λ b. b == dot) text
-
--- none where it is left out
-abbrev pub pieces : Option (List ℕ) → List (List ℕ)
-pieces None = []
-pieces (Some text) = dotted text
 
 -- the parts that the program holds
 abbrev pub parts : Written → Parts
@@ -27,7 +19,7 @@ pub record IsVersionWritten (text : List ℕ) (p : Parts) : Type 0 where
 
 -- the parts have their form, but for there being a number at all: cut texts have a part
 abbrev pub has_form : Parts → Bool
-has_form p = nat_lt (length p.numbers) 5 && (list_all is_numeral p.numbers && (list_all is_label p.labels && list_all is_label p.build))
+has_form p = nat_lt (length p.numbers) 5 && (list_all is_numeral p.numbers && (list_all is_identifier p.labels && list_all is_identifier p.build))
 
 -- the text is made of no such parts
 abbrev pub NoVersionWritten : List ℕ → Type 0

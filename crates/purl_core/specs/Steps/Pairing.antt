@@ -1,11 +1,11 @@
 -- The qualifiers of pieces, put in order.
-use Rattle.std.specs.Prelude.{◌≡◌, ℕ, Bool, true, false, if◌then◌else◌, List, [], ◌∷◌, map, Result, Ok, Err, String, string_bytes}
+use Rattle.std.specs.Prelude.{◌≡◌, ℕ, Bool, true, false, if◌then◌else◌, List, [], ◌∷◌, map, Option, Some, None, Result, Ok, Err, String, string_bytes}
 use Rattle.std.specs.Ordering.{nat_cmp, is_lt}
 use Rattle.std.specs.Cmp.Lexicographic.{slice_cmp}
 use Rattle.std.specs.declared.alloc.Global.{Global}
 use Rattle.purl_core.specs.Value.{Ascending, pair_view}
 use Rattle.purl_core.specs.Spelling.{Distinct, IsPiece, SameMap}
-use Rattle.purl_core.specs.Places.{AreKeyed, HasKey, IsDuplicateAt, keyed_pair, without_places}
+use Rattle.purl_core.specs.Places.{AreKeyed, HasKey, IsBadPieceAt, IsDuplicateAt, keyed_pair, without_places}
 use Rattle.purl_core.specs.declared.value.Pair.{Pair}
 use Rattle.purl_core.specs.declared.fault.PurlFault.{PurlFault}
 use Rattle.purl_core.specs.declared.fault.PurlFault.TheVariants.{Scheme, BadType, Name, Escape, NotText, Qualifier, DuplicateKey, NoMemory}
@@ -38,7 +38,7 @@ PutsKeyed old new (entry ∷ entries) twice = PutsPair old new entry.1 twice
 abbrev pub PutsPiece : List (List ℕ × List ℕ) → List (List ℕ × List ℕ) → ℕ × List ℕ → Bool → Type 0
 PutsPiece old new piece twice = (pair : List ℕ × List ℕ) × IsPiece piece.1 pair × PutsKeyed old new (keyed_pair piece.0 pair) twice
 
--- the pieces' pairs with a value are these, in order; or a key stands twice
+-- the pieces' pairs with a value are these, in order; or a piece is no pair, or a key stands twice
 abbrev pub IsPaired : List (ℕ × List ℕ) → Result (List Pair) PurlFault → Type 0
 IsPaired pieces (Ok pairs) = (keyed : List (ℕ × (List ℕ × List ℕ))) × AreKeyed pieces keyed × Distinct (without_places keyed)
     × SameMap (map pair_view pairs) (without_places keyed) × Ascending (map pair_view pairs)
@@ -47,6 +47,11 @@ IsPaired pieces (Err BadType) = ⊥
 IsPaired pieces (Err Name) = ⊥
 IsPaired pieces (Err (Escape at)) = ⊥
 IsPaired pieces (Err (NotText at)) = ⊥
-IsPaired pieces (Err (Qualifier at)) = ⊥
+IsPaired pieces (Err (Qualifier at)) = IsBadPieceAt pieces at
 IsPaired pieces (Err (DuplicateKey at)) = (keyed : List (ℕ × (List ℕ × List ℕ))) × AreKeyed pieces keyed × IsDuplicateAt keyed at
 IsPaired pieces (Err NoMemory) = Unit {0}
+
+-- where there are pairs, they are those of the pieces
+abbrev pub MayPair : List (ℕ × List ℕ) → Option (List Pair) → Type 0
+MayPair pieces None = Unit {0}
+MayPair pieces (Some pairs) = IsPaired pieces (Ok pairs)

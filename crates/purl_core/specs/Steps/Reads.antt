@@ -4,10 +4,12 @@ use Rattle.vx_text.specs.Escapes.{unescaped}
 use Rattle.purl_core.specs.Grammar.{Parts}
 use Rattle.purl_core.specs.Value.{is_dots}
 use Rattle.purl_core.specs.Spelling.{listed_version}
-use Rattle.purl_core.specs.Places.{AllPass, AllText, IsFirstAt, IsNotTextAt, components, path_at, placed_parts, placed_whole, subpath_at, version_at}
+use Rattle.purl_core.specs.Places.{AllPass, AllText, IsFirstAt, IsNotTextAt, components, path_at, pieces_of, placed_parts, placed_whole, subpath_at, version_at}
 use Rattle.purl_core.specs.declared.fault.PurlFault.{PurlFault}
 use Rattle.purl_core.specs.declared.fault.PurlFault.TheVariants.{Scheme, BadType, Name, Escape, NotText, Qualifier, DuplicateKey, NoMemory}
+use Rattle.purl_core.specs.Steps.Pairing.{MayPair}
 use Rattle.purl_core.specs.declared.reading.Texts.{Texts}
+use Rattle.purl_core.specs.declared.value.Pair.{Pair}
 
 -- all parts pass, or the first that does not fails at the place found
 abbrev pub FindsFirst : (List ℕ → Type 0) → (ℕ × List ℕ → ℕ → Type 0) → List (ℕ × List ℕ) → Option ℕ → Type 0
@@ -66,7 +68,7 @@ pub record AreTexts (parts : Parts) (texts : Texts) : Type 0 where
   pub version : listed_version texts.version ≡ texts_of (placed_whole (version_at parts) parts.version)
   pub subpath : texts.subpath ≡ without_dots (texts_of (placed_parts (subpath_at parts) 47 parts.subpath))
 
--- the texts of checked parts, or a refusal
-abbrev pub AreDecoded : Parts → Result Texts PurlFault → Type 0
-AreDecoded parts (Ok texts) = AllText (components parts) × AreTexts parts texts
+-- the texts of checked parts, and the qualifiers where they were found; or a refusal
+abbrev pub AreDecoded : Parts → Result (Texts × Option (List Pair)) PurlFault → Type 0
+AreDecoded parts (Ok read) = AllText (components parts) × AreTexts parts read.0 × MayPair (pieces_of parts) read.1
 AreDecoded parts (Err fault) = IsTextFault (components parts) fault

@@ -24,8 +24,8 @@ use Rattle.vx_order.specs.Letters.{letters_cmp}
 use Rattle.vx_order.proofs.LetterLaws.{letters_total}
 use Rattle.vx_range.specs.declared.making.Outcome.TheVariants as made
 use Rattle.vx_range.specs.Apart.{AreToldApart}
-use Rattle.rpm_scheme.specs.Version.{Fields, HasRelease, IsWithoutRelease, caret, end_rank, letters_of, tilde}
-use Rattle.rpm_scheme.specs.Order.{count_letter, order_of, release_key}
+use Rattle.rpm_scheme.specs.Version.{Fields, HasRelease, IsWithoutRelease, caret, count_letter, end_rank, letters_of, tilde}
+use Rattle.rpm_scheme.specs.Order.{order_of, release_key}
 use Rattle.rpm_scheme.specs.Spelling.{IsVersion, is_part, is_part_byte, release_letters}
 use Rattle.relation_ranges.specs.declared.comparison.Comparison.{Comparison}
 use Rattle.relation_ranges.specs.declared.comparison.Comparison.TheVariants.{Less, LessOrEqual, Equal, GreaterOrEqual, Greater}

@@ -13,9 +13,10 @@ use Rattle.vx_spec.proofs.EachLaws.{each_append}
 use Rattle.vx_order.specs.declared.letter.Letter.{Letter}
 use Rattle.vx_order.specs.Letters.{end_letter, letter_cmp, letters_cmp}
 use Rattle.vx_order.proofs.LetterLaws.{letter_total}
-use Rattle.rpm_scheme.specs.Version.{tilde, caret, tilde_rank, end_rank, caret_rank, number_rank, sign_letter, sign_letters, first_letters, behind_first, letters_in, letters_of}
-use Rattle.rpm_scheme.specs.Order.{count_letter, release_key}
-use Rattle.rpm_scheme.proofs.TokenLaws.{first_number, first_word}
+use Rattle.vx_order.specs.Scanning.{behind_token, scanned_in}
+use Rattle.vx_order.specs.Laws.Scanning.{token_number, token_word}
+use Rattle.rpm_scheme.specs.Version.{tilde, caret, tilde_rank, end_rank, caret_rank, number_rank, sign_letter, sign_letters, word_letter, first_letters, count_letter, letters_of}
+use Rattle.rpm_scheme.specs.Order.{release_key}
 use Rattle.relation_ranges.specs.Rpm.Apart.{greatest_number}
 
 -- ---- the ranks of a version's letters
@@ -41,18 +42,18 @@ sign_ranked b = elim (cases_Bool (eqb b tilde)) [
 
 first_ranked : (b : ℕ) (part : List ℕ) → AllByRecursion IsRanked (first_letters (b ∷ part))
 first_ranked b part = elim (cases_Bool (is_ascii_digit b)) [
-  | inl digit ↦ subst (AllByRecursion IsRanked) (sym (first_number b part digit)) ((omega arith, λ e. omega (arith, e)), tt)
+  | inl digit ↦ subst (AllByRecursion IsRanked) (sym (token_number count_letter word_letter sign_letters b part digit)) ((omega arith, λ e. omega (arith, e)), tt)
   | inr other ↦ elim (cases_Bool (is_ascii_alphabetic b)) [
-    | inl letter ↦ subst (AllByRecursion IsRanked) (sym (first_word b part other letter)) ((omega arith, λ e. omega (arith, e)), tt)
+    | inl letter ↦ subst (AllByRecursion IsRanked) (sym (token_word count_letter word_letter sign_letters b part other letter)) ((omega arith, λ e. omega (arith, e)), tt)
     | inr sign ↦ rw (other, sign) (sign_ranked b)
   ]
 ]
 
-letters_ranked : (n : ℕ) (part : List ℕ) → AllByRecursion IsRanked (letters_in n part)
+letters_ranked : (n : ℕ) (part : List ℕ) → AllByRecursion IsRanked (scanned_in first_letters behind_token n part)
 letters_ranked zero part = tt
 letters_ranked (suc n) [] = tt
 letters_ranked (suc n) (b ∷ part) =
-    each_append IsRanked (first_letters (b ∷ part)) (letters_in n (behind_first (b ∷ part))) (first_ranked b part) (letters_ranked n (behind_first (b ∷ part)))
+    each_append IsRanked (first_letters (b ∷ part)) (scanned_in first_letters behind_token n (behind_token (b ∷ part))) (first_ranked b part) (letters_ranked n (behind_token (b ∷ part)))
 
 pub part_ranked : (part : List ℕ) → AllByRecursion IsRanked (letters_of part)
 part_ranked part = letters_ranked (length part) part

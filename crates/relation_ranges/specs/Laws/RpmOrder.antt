@@ -11,8 +11,8 @@ use Rattle.vx_scheme.specs.declared.domain.Domain.{Domain}
 use Rattle.vx_scheme.specs.declared.domain.Domain.TheVariants.{All, Releases}
 use Rattle.vx_scheme.specs.Native.{by_domain}
 use Rattle.vx_scheme.specs.Cuts.{stands_below}
-use Rattle.rpm_scheme.specs.Version.{Fields, HasRelease, IsWithoutRelease, end_rank}
-use Rattle.rpm_scheme.specs.Order.{count_letter, order_of, release_key}
+use Rattle.rpm_scheme.specs.Version.{Fields, HasRelease, IsWithoutRelease, count_letter, end_rank}
+use Rattle.rpm_scheme.specs.Order.{order_of, release_key}
 use Rattle.relation_ranges.specs.declared.comparison.Comparison.{Comparison}
 use Rattle.relation_ranges.specs.declared.comparison.Comparison.TheVariants.{Less, LessOrEqual, Equal, GreaterOrEqual, Greater}
 use Rattle.relation_ranges.specs.Comparison.{is_so}

@@ -8,10 +8,14 @@ use Rattle.vx_spec.specs.Runs.{begins, run, past}
 use Rattle.vx_spec.proofs.NumeralLaws.{numeral_text_is, value-numeral_text}
 use Rattle.vx_spec.proofs.RunLaws.{one_run, past_begins, run_all, run_past}
 use Rattle.vx_text.proofs.PastLaws.{numeral_bytes}
-use Rattle.rpm_scheme.specs.Version.{tilde, caret, tilde_rank, caret_rank, sign_letter, number_letter, word_letter, first_letters, behind_first, letters_of}
-use Rattle.rpm_scheme.specs.Order.{count_letter}
-use Rattle.rpm_scheme.proofs.TokenLaws.{behind_digits, behind_less, behind_sign, behind_word, first_number, first_word, letters_step}
+use Rattle.vx_order.specs.Scanning.{behind_token}
+use Rattle.vx_order.specs.Laws.Scanning.{behind_digits, behind_other, behind_word, scanned_step, token_number, token_takes_a_byte, token_word}
+use Rattle.rpm_scheme.specs.Version.{tilde, caret, tilde_rank, caret_rank, count_letter, sign_letter, sign_letters, word_letter, first_letters, letters_of}
 use Rattle.relation_ranges.specs.Laws.RpmLetters.{snapshot}
+
+-- the letters of a text's first token, then those of what stands behind it
+letters_step : (part : List ℕ) → part ≢ [] → letters_of part ≡ first_letters part ++ letters_of (behind_token part)
+letters_step = scanned_step first_letters behind_token token_takes_a_byte
 
 -- ---- a text and what stands behind it
 
@@ -33,20 +37,20 @@ abbrev IsParting : List ℕ → Type 0
 IsParting rest = (begins is_ascii_digit rest ≡ false) × (begins is_ascii_alphabetic rest ≡ false)
 
 token_before : (b : ℕ) (part rest : List ℕ) → IsParting rest
-    → (first_letters (b ∷ (part ++ rest)) ≡ first_letters (b ∷ part)) × (behind_first (b ∷ (part ++ rest)) ≡ behind_first (b ∷ part) ++ rest)
+    → (first_letters (b ∷ (part ++ rest)) ≡ first_letters (b ∷ part)) × (behind_token (b ∷ (part ++ rest)) ≡ behind_token (b ∷ part) ++ rest)
 token_before b part rest parts = elim (cases_Bool (is_ascii_digit b)) [
   | inl digit ↦
       let same = run_before is_ascii_digit (b ∷ part) rest parts.0 in (
-        first_number b (part ++ rest) digit ∙ ap (λ digits. number_letter digits ∷ []) same.0 ∙ sym (first_number b part digit),
+        token_number count_letter word_letter sign_letters b (part ++ rest) digit ∙ ap (λ digits. count_letter (value digits) ∷ []) same.0 ∙ sym (token_number count_letter word_letter sign_letters b part digit),
         behind_digits b (part ++ rest) digit ∙ same.1 ∙ ap (λ t. t ++ rest) (sym (behind_digits b part digit)),
       )
   | inr other ↦ elim (cases_Bool (is_ascii_alphabetic b)) [
     | inl letter ↦
         let same = run_before is_ascii_alphabetic (b ∷ part) rest parts.1 in (
-          first_word b (part ++ rest) other letter ∙ ap (λ word. word_letter word ∷ []) same.0 ∙ sym (first_word b part other letter),
+          token_word count_letter word_letter sign_letters b (part ++ rest) other letter ∙ ap (λ word. word_letter word ∷ []) same.0 ∙ sym (token_word count_letter word_letter sign_letters b part other letter),
           behind_word b (part ++ rest) other letter ∙ same.1 ∙ ap (λ t. t ++ rest) (sym (behind_word b part other letter)),
         )
-    | inr sign ↦ (rw (other, sign) refl, behind_sign b (part ++ rest) other sign ∙ ap (λ t. t ++ rest) (sym (behind_sign b part other sign)))
+    | inr sign ↦ (rw (other, sign) refl, behind_other b (part ++ rest) other sign ∙ ap (λ t. t ++ rest) (sym (behind_other b part other sign)))
   ]
 ]
 
@@ -59,8 +63,8 @@ letters_up_to most [] rest size parting = refl
 letters_up_to zero (b ∷ part) rest size parting = absurd (omega (arith, size))
 letters_up_to (suc most) (b ∷ part) rest size parting =
     let token = token_before b part rest parting in
-    let behind = behind_first (b ∷ part) in
-    let more = letters_up_to most behind rest (omega (arith, behind_less b part, size)) parting in
+    let behind = behind_token (b ∷ part) in
+    let more = letters_up_to most behind rest (omega (arith, token_takes_a_byte b part, size)) parting in
     letters_step (b ∷ (part ++ rest)) (some_byte b (part ++ rest))
     ∙ (λ i. token.0 i ++ letters_of (token.1 i))
     ∙ ap (λ letters. first_letters (b ∷ part) ++ letters) more
@@ -87,7 +91,7 @@ digits_letters (b ∷ digits) is =
     let one = one_run is_ascii_digit (b ∷ digits) [] all refl in
     let whole = append-nil (b ∷ digits) in
     letters_step (b ∷ digits) (some_byte b digits)
-    ∙ ap (λ letters. letters ++ letters_of (behind_first (b ∷ digits))) (first_number b digits digit ∙ ap (λ t. number_letter t ∷ []) (ap (run is_ascii_digit) (sym whole) ∙ one.0))
+    ∙ ap (λ letters. letters ++ letters_of (behind_token (b ∷ digits))) (token_number count_letter word_letter sign_letters b digits digit ∙ ap (λ t. count_letter (value t) ∷ []) (ap (run is_ascii_digit) (sym whole) ∙ one.0))
     ∙ ap (λ t. count_letter (value (b ∷ digits)) ∷ letters_of t) (behind_digits b digits digit ∙ ap (past is_ascii_digit) (sym whole) ∙ one.1)
 
 pub number_letters : (number : ℕ) → letters_of (numeral_text number) ≡ count_letter number ∷ []

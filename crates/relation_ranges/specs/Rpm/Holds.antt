@@ -7,8 +7,7 @@ use Rattle.std.specs.declared.cmp.Ordering.TheVariants as ordering
 use Rattle.vx_spec.specs.Rows.{rows_cmp}
 use Rattle.vx_order.specs.declared.letter.Letter.{Letter}
 use Rattle.vx_order.specs.Letters.{letters_cmp}
-use Rattle.rpm_scheme.specs.Version.{Fields, end_rank}
-use Rattle.rpm_scheme.specs.Order.{count_letter}
+use Rattle.rpm_scheme.specs.Version.{Fields, count_letter, end_rank}
 use Rattle.relation_ranges.specs.declared.comparison.Comparison.{Comparison}
 use Rattle.relation_ranges.specs.Comparison.{is_so}
 

@@ -8,7 +8,8 @@ use Rattle.vx_scheme.specs.Cuts.{cut_cmp, is_absent}
 use Rattle.vx_line.specs.Steps.Joins.{above, join_pieces}
 use Rattle.vx_line.specs.declared.line_piece.LinePiece.{LinePiece}
 use Rattle.vx_line.specs.Logarithm.{log2_up}
-use Rattle.vx_line.specs.Pieces.{cuts_below, pieces_at}
+use Rattle.vx_line.specs.Pieces.{cuts_below, pieces_at, changes_of}
+use Rattle.vx_interval.specs.declared.bounds.Joined.{Joined}
 use Rattle.vx_interval.specs.declared.line.Line.{Line}
 use Rattle.vx_interval.specs.Joined.{IsLine, mark_of}
 use Rattle.vx_interval.specs.Places.{AtEachPlace}
@@ -18,6 +19,13 @@ pub record IsLineOf {V : Type 0} (order : V → V → Ordering) (made : List (Cu
   pub cuts : IsLine order made (cuts_below line.pieces)
   pub pieces : AtEachPlace order (λ below. pieces_at below line.starts line.pieces ≡ test below)
   pub few : length line.pieces ≤ length made
+
+-- The cuts at which such a line changes.
+pub record AreChangesOf {V : Type 0} (order : V → V → Ordering) (made : List (Cut V)) (test : (Cut V → Bool) → Bool) (joined : Joined V) : Type 0 where
+  pub line : Line V
+  pub is : IsLineOf order made test line
+  pub starts : joined.starts_in ≡ line.starts
+  pub cuts : joined.cuts ≡ changes_of line.starts line.pieces
 
 -- what a line of n cuts may cost, where lists of such lines were joined so many times, one in the other
 abbrev pub line_cost : ℕ → ℕ → ℕ

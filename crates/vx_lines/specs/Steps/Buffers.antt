@@ -1,7 +1,7 @@
 -- The steps of a reader of lines, over its buffers.
-use Rattle.std.specs.Prelude.{◌≡◌, ℕ, ◌+◌, ◌-◌, ◌<◌, ◌≤◌, List, [], ◌++◌, Bool, true, false, length, take, drop, nat_lt, Option, is_some, vec_capacity}
+use Rattle.std.specs.Prelude.{◌≡◌, ℕ, ◌+◌, ◌-◌, ◌<◌, ◌≤◌, List, [], ◌++◌, Bool, true, false, length, take, drop, nat_lt, Option, Some, None, is_some, vec_capacity}
 use Rattle.std.specs.Io.KnownBytes.{Consumes, IsAtEnd}
-use Rattle.vx_spec.specs.Marks.{IsCut}
+use Rattle.vx_spec.specs.Marks.{IsCut, Lacks}
 use Rattle.vx_lines.specs.Lines.{line_feed, Reading, Takes, bytes_behind}
 use Rattle.vx_lines.specs.declared.buffers.Buffers.{Buffers}
 use Rattle.vx_lines.specs.declared.next_line.NextLine.{NextLine}
@@ -25,10 +25,17 @@ reading_of is_open b =
       line = b.line.items;
     }
 
--- the places lie in the read buffer, which is not empty, and the line buffer has room for a line
+-- so many bytes stand before the first line feed, or there is none
+abbrev pub IsFeedOf : List ℕ → Option ℕ → Type 0
+IsFeedOf bytes None = Lacks line_feed bytes
+IsFeedOf bytes (Some n) = (n < length bytes) × IsCut line_feed bytes (take n bytes) (Some (drop (n + 1) bytes))
+
+-- The places lie in the read buffer, which is not empty; it is known where what is held has its first line feed; and the
+-- line buffer has room for a line.
 pub record IsGood (b : Buffers) : Type 0 where
   pub ordered : b.from ≤ b.to
   pub within : b.to ≤ length b.chunk.items
+  pub feed : IsFeedOf (held_of b) b.feed
   pub some : 0 < length b.chunk.items
   pub least : 0 < b.most
   pub room : b.most ≤ vec_capacity b.line

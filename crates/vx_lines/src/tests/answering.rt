@@ -7,8 +7,9 @@ use crate::loop_end::LoopEnd;
 use crate::memory_sink::MemorySink;
 use crate::memory_source::MemorySource;
 use std::alloc::{AllocError, Global};
+use std::str;
 use std::test::Fail;
-use vx_scheme::NoMemory;
+use vx_scheme::{NoMemory, Text};
 
 // The line itself, accepted where it does not begin with `no`. The line `full` finds no memory.
 struct Echo;
@@ -19,21 +20,20 @@ impl Answering for Echo {
 
     ghost says = { λ _ line ok text. length line ≤ MOST_BYTES → text ≡ line };
 
-    fn answer(&self, line: &[u8], text: &mut Vec<u8>) -> Result<bool, NoMemory> {
+    fn answer(&self, line: &[u8], text: &mut Text) -> Result<bool, NoMemory> {
         if line == "full".as_bytes() {
             return Err(NoMemory);
         }
-        match text.extend_from_slice(line) {
-            Ok(()) => Ok(!line.starts_with("no".as_bytes())),
-            Err(_) => Err(NoMemory),
-        }
+        let Ok(piece) = str::from_utf8(line) else {
+            return Err(NoMemory);
+        };
+        text.push_str(piece)?;
+        Ok(!line.starts_with("no".as_bytes()))
     }
 
-    fn answer_long(&self, text: &mut Vec<u8>) -> Result<bool, NoMemory> {
-        match text.extend_from_slice("too long".as_bytes()) {
-            Ok(()) => Ok(false),
-            Err(_) => Err(NoMemory),
-        }
+    fn answer_long(&self, text: &mut Text) -> Result<bool, NoMemory> {
+        text.push_str("too long")?;
+        Ok(false)
     }
 }
 

@@ -1,8 +1,9 @@
 -- What the steps of reading answer.
-use Rattle.std.specs.Prelude.{◌≡◌, ◌≢◌, ◌==◌, ◌⊎◌, ◌+◌, ◌++◌, ℕ, Bool, not, bytes_eq, List, [], ◌∷◌, codes, length, Some, Result, Ok, Err}
-use Rattle.std.specs.List.{slice_split}
+use Rattle.std.specs.Prelude.{◌≡◌, ◌≢◌, ◌==◌, ◌&&◌, ◌⊎◌, ◌+◌, ◌++◌, ℕ, Bool, true, not, bytes_eq, List, [], ◌∷◌, codes, length, Some, Result, Ok, Err}
+use Rattle.std.specs.List.{list_all, slice_split}
 use Rattle.std.specs.declared.cmp.Ordering.{Ordering}
 use Rattle.vx_spec.specs.Firsts.{IsFirst}
+use Rattle.vx_spec.specs.Runs.{is_solid}
 use Rattle.vx_scheme.specs.declared.name.SchemeName.{SchemeName}
 use Rattle.vx_scheme.specs.declared.version_fault.VersionFault.{VersionFault}
 use Rattle.vx_scheme.specs.declared.version_fault.VersionFault.TheVariants as version_fault_of
@@ -12,6 +13,14 @@ use Rattle.vx_vers.specs.declared.fault.VersFault.{VersFault}
 use Rattle.vx_vers.specs.declared.fault.VersFault.TheVariants as fault_of
 use Rattle.vx_vers.specs.Grammar.{SpellsSolid, IsStarAlone, IsListOf, SpellEach, SpellsConstraint, EachWithin, kept_parts}
 use Rattle.vx_vers.specs.Refusals.{RefusesSolid, RefusesWritten, RefusesPart, numbered_texts}
+
+-- the byte is no blank, '%' or '*'; '%' is 37, and '*' 42
+abbrev pub is_plain : ℕ → Bool
+is_plain b = is_solid b && not (b == 37) && not (b == 42)
+
+-- where the text is said to be plain, no byte of it is a blank, '%' or '*'
+abbrev pub IsPlainIf : Bool → List ℕ → Type 0
+IsPlainIf plain text = (plain ≡ true) → (list_all is_plain text ≡ true)
 
 -- the parts of the text between bars; '|' is 124
 abbrev pub parts_of : List ℕ → List (List ℕ)
@@ -79,6 +88,10 @@ version_fault k version_fault_of.NoMemory = fault_of.NoMemory
 abbrev pub constraint_of_version : {V : Type 0} → Comparator → ℕ → Result V VersionFault → Result (Constraint V) VersFault
 constraint_of_version comparator k (Ok version) = Ok (record { comparator = comparator; version = version })
 constraint_of_version comparator k (Err fault) = Err (version_fault k fault)
+
+-- the constraint that was read is appended
+abbrev pub IsPushed : {V : Type 0} → Result (Constraint V) VersFault → List (Constraint V) → List (Constraint V) → Type 0
+IsPushed {V} answer list more = (c : Constraint V) × (more ≡ list ++ c ∷ []) × (answer ≡ Ok c)
 
 -- the text begins with no comparator of two characters
 abbrev pub HasNoLongSign : List ℕ → Type 0

@@ -1,11 +1,11 @@
-use Rattle.std.proofs.Common.{rules, tests, lit<}
+use Rattle.std.proofs.Common.{rules, tests}
 use Rattle.std.proofs.lemmas.Iterator.Search.{all_from_yields_List}
-use Rattle.std.proofs.lemmas.Iterator.Splits.{YieldsList-from_str_split}
+use Rattle.std.proofs.lemmas.Iterator.Splits.{YieldsList-from_slice_split}
 use Rattle.gem_scheme.specs.Spelling.{is_label}
 use Rattle.gem_scheme.proofs.spelling.all_labels.Goals as goal
 
 pub returns : goal.returns
 returns c =
     all_from_yields_List is_label _ _ _ c.all.ensures.ran
-    (YieldsList-from_str_split 46 c.args.text.now (lit< tt) c.split.ensures.text c.split.ensures.has_more c.split.ensures.pattern)
+    (YieldsList-from_slice_split _ _ c.args.text.now c.split.ensures.rest c.split.ensures.done c.split.ensures.closure (λ x b q k. search (rules, tests)))
     (λ x b q k. search (rules, tests))

@@ -1,4 +1,4 @@
-use Rattle.std.proofs.Common.{◌≡◌, true, inl, refl, sym, ◌∙◌}
+use Rattle.std.proofs.Common.{◌≡◌, true, inl, refl}
 use Rattle.std.proofs.lemmas.Result.{IfOk-weaker}
 use Rattle.npm_scheme.specs.Written.{parts}
 use Rattle.npm_range.specs.Reading.{is_short}
@@ -7,7 +7,7 @@ use Rattle.npm_range.proofs.partials.read_partial.Goals as goal
 
 pub returns-in-Err : goal.returns-in-Err
 returns-in-Err c =
-    let short : is_short c.args.text.now ≡ true = sym c.is_short.ensures ∙ c.if-is_short.true in
+    let short : is_short c.args.text.now ≡ true = cc in
     ((_, inl (short, refl)), (_, inl (short, refl), c.in-Err.ensures))
 
 pub returns-in-Some : goal.returns-in-Some

@@ -8,7 +8,7 @@ overflow_add-patch_at-in-Some-2 c =
     let w = c.args.written.now in
     omega (arith, before_pre w.major.now w.minor.now w.patch.now c.in-Some.pre.now _ (option_copied w.build) (ap option_copied c.in-Some.is), c.requires)
 
-pub past_identifier-requires : goal.past_identifier-requires
-past_identifier-requires c =
+pub first_past_part-requires : goal.first_past_part-requires
+first_past_part-requires c =
     let w = c.args.written.now in
     omega (arith, before_pre w.major.now w.minor.now w.patch.now c.in-Some.pre.now _ (option_copied w.build) (ap option_copied c.in-Some.is), c.requires)

@@ -2,7 +2,7 @@ use Rattle.std.proofs.Common.{◌≡◌, length, lit<, arith}
 use Rattle.std.proofs.lemmas.Bool.Decides.{nat_tests}
 use Rattle.std.proofs.lemmas.Iterator.Consumers.{count_from_yields_List}
 use Rattle.std.proofs.lemmas.Iterator.Splits.{YieldsList-from_str_split}
-use Rattle.nuget_scheme.specs.Steps.Written.{dotted}
+use Rattle.vx_order.specs.Dotted.{dotted}
 use Rattle.nuget_scheme.proofs.spelling.are_few.Goals as goal
 
 pub returns : goal.returns

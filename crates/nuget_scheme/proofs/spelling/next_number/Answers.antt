@@ -1,7 +1,7 @@
 use Rattle.std.proofs.Common.{ap, refl}
 use Rattle.std.specs.Option.{option_copied}
 use Rattle.std.proofs.lemmas.Result.{err_from_is_err_and}
-use Rattle.nuget_scheme.proofs.Apart.{pieces_cut}
+use Rattle.vx_order.specs.Laws.Dotted.{pieces_cut}
 use Rattle.nuget_scheme.proofs.Making.{first_numeral}
 use Rattle.nuget_scheme.proofs.spelling.next_number.Goals as goal
 

@@ -47,13 +47,13 @@ returns-in_err-version c =
     (fault_next (components p) (version_of p) _ e (subst (λ l. IsTextFault l e) c.version_part.ensures.part c.in_err-version.ensures)
     (behind_path p (subst AllText c.path_walk.ensures.parts c.in_ok-namespace.ensures.0)))
 
-pub returns-in_err-check_values : goal.returns-in_err-check_values
-returns-in_err-check_values c =
+pub returns-in_err-found : goal.returns-in_err-found
+returns-in_err-found c =
     let p = parts c.args.raw.now in
-    let e = c.in_err-check_values.field-0.0 in
-    let exit = err_from_is_err_and c.from_residual-in_err-check_values.result c.from_residual-in_err-check_values.ensures.1 in
+    let e = c.in_err-found.field-0.0 in
+    let exit = err_from_is_err_and c.from_residual-in_err-found.result c.from_residual-in_err-found.ensures.1 in
     rw (exit.1, exit.2)
-    (fault_next (components p) (values (pieces_of p)) (subpath_of p) e (subst (λ l. IsTextFault (values l) e) c.pieces_walk.ensures.parts c.in_err-check_values.ensures)
+    (fault_next (components p) (values (pieces_of p)) (subpath_of p) e (subst (λ l. IsTextFault (values l) e) c.pieces_walk.ensures.parts c.in_err-found.ensures)
     (behind_version p (subst AllText c.path_walk.ensures.parts c.in_ok-namespace.ensures.0) (subst AllText c.version_part.ensures.part c.in_ok-version.ensures.0)))
 
 pub returns-in_err-subpath : goal.returns-in_err-subpath
@@ -61,7 +61,7 @@ returns-in_err-subpath c =
     let p = parts c.args.raw.now in
     let e = c.in_err-subpath.field-0.0 in
     let exit = err_from_is_err_and c.from_residual-in_err-subpath.result c.from_residual-in_err-subpath.ensures.1 in
-    let pieces = subst (λ l. AllText (values l)) c.pieces_walk.ensures.parts c.in_ok-check_values.ensures.0 in
+    let pieces = subst (λ l. AllText (values l)) c.pieces_walk.ensures.parts c.in_ok-found.ensures.0 in
     let left = behind_values p (subst AllText c.path_walk.ensures.parts c.in_ok-namespace.ensures.0) (subst AllText c.version_part.ensures.part c.in_ok-version.ensures.0) pieces in
     let fault = subst (λ l. IsTextFault l e) c.subpath_walk.ensures.parts c.in_err-subpath.ensures in
     rw (exit.1, exit.2) (fault_next (components p) (subpath_of p) [] e fault (subst (Goes IsText IsOtherAt (components p)) (sym (append-nil (subpath_of p))) left))

@@ -1,5 +1,5 @@
 -- The item has the key, or what is left has its values.
-use Rattle.std.proofs.Common.{◌∙◌, ap, sym, subst, List, ℕ, map}
+use Rattle.std.proofs.Common.{◌∙◌, sym, subst, List, ℕ, map}
 use Rattle.std.proofs.lemmas.Bool.{false≢true}
 use Rattle.std.proofs.lemmas.Slice.Eq.{bytes_eq-Decides}
 use Rattle.purl_core.specs.Spelling.{Member}

@@ -18,6 +18,14 @@ returns-in_err-line-clause-cost g c =
     (c.in_err-line.ensures.cost (length (all_cuts g.X.Part.cuts c.args.parts)) (omega arith))
     (taken_fewer g.X.Part.cuts c.args.parts c.last_lines.new.parts c.in_err-line.ensures.split) (omega arith)
 
+pub returns-then-is_empty-clause-cost : goal.returns-then-is_empty-clause-cost
+returns-then-is_empty-clause-cost g c =
+    let few = few_parts g.X.Part.cuts c.args.parts in
+    let count = c.count_with_cuts-count.ensures in
+    list_cost (length (all_cuts g.X.Part.cuts c.args.parts)) _ c.count_with_cuts-count.result g.X.Part.depth _ _
+    (c.in_ok-line.ensures.cost (length (all_cuts g.X.Part.cuts c.args.parts)) (omega arith))
+    (taken_fewer g.X.Part.cuts c.args.parts c.last_lines.new.parts c.in_ok-line.ensures.split) (omega arith)
+
 pub returns-in_err-rest-clause-cost : goal.returns-in_err-rest-clause-cost
 returns-in_err-rest-clause-cost g c =
     let few = few_parts g.X.Part.cuts c.args.parts in

@@ -11,7 +11,7 @@ returns-in_default-clause-ends g c = front_at_start _ _ _ _ c.requires.some
 pub loop-gathered-init : goal.loop-gathered-init
 loop-gathered-init g c =
     let lines = c.in-Ok.ensures in (
-      rw c.new-gathered.ensures.items (begun _ _ c.in-Ok.lines _ _ (ap (λ l. l.held) lines) (ap (λ l. l.taken) lines) (ap (λ l. l.ended) lines)),
+      rw c.new-gathered.ensures (begun _ _ c.in-Ok.lines _ _ (ap (λ l. l.held) lines) (ap (λ l. l.taken) lines) (ap (λ l. l.ended) lines)),
       ap (λ l. l.is_open) lines,
       ap (λ l. l.limit) lines,
       search rules,
@@ -38,12 +38,12 @@ returns-then-not-stays_open-clause-ends g c =
     let wrote = c.in-Ok-write_gathered.ensures in
     let next = c.next_line-next.ensures in
     let has = c.has_line.result in
-    let q = after_write _ _ c.loop-gathered.lines _ _ _ has _ _ _ c.write_gathered.new.gathered.items _ p
+    let q = after_write _ _ c.loop-gathered.lines _ _ _ has _ _ _ c.write_gathered.new.gathered _ p
     (λ e. ((wrote.later e).0, ap g.W.Sink.held (wrote.later e).1))
     wrote.whole in
-    let fresh = fresh_by has _ c.write_gathered.new.gathered.items c.has_line.ensures.whole (λ e. (wrote.whole e).0) in
+    let fresh = fresh_by has _ c.write_gathered.new.gathered c.has_line.ensures.whole (λ e. (wrote.whole e).0) in
     rw c.loop_end.ensures
-    (ends _ _ _ c.args.limit c.loop-gathered.lines c.next_line-next.new.self _ _ _ _ _ c.next_line-next.result c.write_gathered.new.gathered.items c.loop-gathered.is_ok q next.takes (λ e. ap g.R.Source.left (next.unread (inl e))) (next.limit ∙ limit) below limit (search rules) fresh)
+    (ends _ _ _ c.args.limit c.loop-gathered.lines c.next_line-next.new.self _ _ _ _ _ c.next_line-next.result c.write_gathered.new.gathered c.loop-gathered.is_ok q next.takes (λ e. ap g.R.Source.left (next.unread (inl e))) (next.limit ∙ limit) below limit (search rules) fresh)
 
 pub returns-then-not-stays_open-clause-writes : goal.returns-then-not-stays_open-clause-writes
 returns-then-not-stays_open-clause-writes g c = λ _.
@@ -62,13 +62,13 @@ loop-gathered-preserved g c =
     let wrote = c.in-Ok-write_gathered.ensures in
     let next = c.next_line-next.ensures in
     let has = c.has_line.result in
-    let q = after_write _ _ c.loop-gathered.lines _ _ _ has _ _ _ c.write_gathered.new.gathered.items _ p
+    let q = after_write _ _ c.loop-gathered.lines _ _ _ has _ _ _ c.write_gathered.new.gathered _ p
     (λ e. ((wrote.later e).0, ap g.W.Sink.held (wrote.later e).1))
     wrote.whole in
-    let fresh = fresh_by has _ c.write_gathered.new.gathered.items c.has_line.ensures.whole (λ e. (wrote.whole e).0) in
+    let fresh = fresh_by has _ c.write_gathered.new.gathered c.has_line.ensures.whole (λ e. (wrote.whole e).0) in
     let stays : stays_open c.next_line-next.result ≡ true = search rules in
     let f = found _ _ c.next_line-next.result _ c.next_line-next.new.self stays next.takes.comes in (
-      gave _ _ _ c.loop-gathered.lines c.next_line-next.new.self _ _ _ _ _ c.next_line-next.result c.write_gathered.new.gathered.items c.loop-gathered.is_ok q next.takes (λ e. ap g.R.Source.left (next.unread (inl e))) f next.held c.gather.new.gathered.items c.in-Ok-gather.ok fresh (rw c.line.ensures.line at c.in-Ok-gather.ensures),
+      gave _ _ _ c.loop-gathered.lines c.next_line-next.new.self _ _ _ _ _ c.next_line-next.result c.write_gathered.new.gathered c.loop-gathered.is_ok q next.takes (λ e. ap g.R.Source.left (next.unread (inl e))) f next.held c.gather.new.gathered c.in-Ok-gather.ok fresh (rw c.line.ensures.line at c.in-Ok-gather.ensures),
       next.open ∙ stays,
       next.limit ∙ limit,
       f.below,
@@ -84,13 +84,13 @@ returns-in-Err-gather-clause-ends g c =
     let wrote = c.in-Ok-write_gathered.ensures in
     let next = c.next_line-next.ensures in
     let has = c.has_line.result in
-    let q = after_write _ _ c.loop-gathered.lines _ _ _ has _ _ _ c.write_gathered.new.gathered.items _ p
+    let q = after_write _ _ c.loop-gathered.lines _ _ _ has _ _ _ c.write_gathered.new.gathered _ p
     (λ e. ((wrote.later e).0, ap g.W.Sink.held (wrote.later e).1))
     wrote.whole in
-    let fresh = fresh_by has _ c.write_gathered.new.gathered.items c.has_line.ensures.whole (λ e. (wrote.whole e).0) in
+    let fresh = fresh_by has _ c.write_gathered.new.gathered c.has_line.ensures.whole (λ e. (wrote.whole e).0) in
     let stays : stays_open c.next_line-next.result ≡ true = search rules in
     let f = found _ _ c.next_line-next.result _ c.next_line-next.new.self stays next.takes.comes in
-    front_of _ _ _ c.loop-gathered.lines c.next_line-next.new.self _ _ _ _ _ c.next_line-next.result c.write_gathered.new.gathered.items c.loop-gathered.is_ok q next.takes (λ e. ap g.R.Source.left (next.unread (inl e))) c.args.limit (next.limit ∙ limit) f.below
+    front_of _ _ _ c.loop-gathered.lines c.next_line-next.new.self _ _ _ _ _ c.next_line-next.result c.write_gathered.new.gathered c.loop-gathered.is_ok q next.takes (λ e. ap g.R.Source.left (next.unread (inl e))) c.args.limit (next.limit ∙ limit) f.below
 
 pub returns-in-Err-gather-clause-writes : goal.returns-in-Err-gather-clause-writes
 returns-in-Err-gather-clause-writes g c = λ _.

@@ -7,7 +7,7 @@ use Rattle.vx_lines.proofs.answering.run_lines.Given as goal
 
 abbrev pub invariant-loop-gathered : goal.invariant-loop-gathered
 invariant-loop-gathered g l =
-    Progress (g.A.Answering.says l.answering) MOST_READ l.lines (g.R.Source.left l.fn.source) (g.R.Source.left l.source) (g.W.Sink.held l.fn.sink) (g.W.Sink.held l.sink) l.gathered.items l.is_ok
+    Progress (g.A.Answering.says l.answering) MOST_READ l.lines (g.R.Source.left l.fn.source) (g.R.Source.left l.source) (g.W.Sink.held l.fn.sink) (g.W.Sink.held l.sink) l.gathered l.is_ok
     × (l.lines.is_open ≡ true)
     × (l.lines.limit ≡ l.fn.limit)
     × (l.lines.taken < l.lines.limit)

@@ -1,15 +1,7 @@
-use Rattle.std.proofs.Common.{append-nil, sym}
-use Rattle.std.proofs.lemmas.Str.Pattern.{split_parts}
-use Rattle.vx_spec.proofs.MarkLaws.{lacks}
+-- A character begins behind an ASCII byte.
+use Rattle.std.proofs.Common.{rules}
+use Rattle.std.proofs.lemmas.Str.{lead_after_ascii}
 use Rattle.vx_text.proofs.marks.cut.Goals as goal
 
-pub returns-in-Some : goal.returns-in-Some
-returns-in-Some c =
-    let found = split_parts c.args.mark c.args.text.now c.split_once.result c.split_once.ensures.cases c.requires in
-    let p = rw c.in-Some.is at found in
-    record { joined = p.0; first = lacks _ _ p.1 }
-
-pub returns-in-None : goal.returns-in-None
-returns-in-None c =
-    let none = split_parts c.args.mark c.args.text.now c.split_once.result c.split_once.ensures.cases c.requires in
-    record { joined = sym (append-nil c.args.text.now); first = lacks _ _ (rw c.in-None.is at none) }
+pub range_from-requires : goal.range_from-requires
+range_from-requires c _ = (search rules, λ inside high. lead_after_ascii c.args.text.now c.in-Some.at c.utf8.text (search rules) inside high)

@@ -3,7 +3,7 @@ use Rattle.std.specs.Char.{is_ascii_digit}
 use Rattle.vx_spec.specs.Runs.{run}
 use Rattle.vx_spec.proofs.RunLaws.{run_all}
 use Rattle.vx_text.specs.Past.{is_past}
-use Rattle.vx_text.proofs.PastLaws.{pass_run}
+use Rattle.vx_text.proofs.PastLaws.{few_first, pass_run}
 use Rattle.vx_text.proofs.past.first_past.Goals as goal
 
 pub is_past-requires : goal.is_past-requires
@@ -16,3 +16,6 @@ runs-preserved c =
       rw (c.cut_run.ensures.run, c.cut_run.ensures.past) (sym (pass_run c.runs.from rest fine) ∙ c.runs.invariant.0),
       omega (arith, c.cut_run.ensures.within, c.runs.invariant.1),
     )
+
+pub returns-then-text-lt-LEAST_PAST : goal.returns-then-text-lt-LEAST_PAST
+returns-then-text-lt-LEAST_PAST c = sym (few_first c.args.at c.args.text.now (omega arith))

@@ -4,7 +4,7 @@ use Rattle.std.proofs.lemmas.Result.{err_from_is_err_and}
 use Rattle.vx_text.proofs.Joins.{parts_behind}
 use Rattle.vx_vers.specs.Grammar.{kept_parts}
 use Rattle.vx_vers.specs.Steps.Reading.{IsReadUpTo, written_in}
-use Rattle.vx_vers.proofs.PartLaws.{left}
+use Rattle.vx_vers.proofs.PartLaws.{IsPlainLeft, left, plain_behind, plain_part}
 use Rattle.vx_vers.proofs.ReadLaws.{read_more, read_stops, room_left}
 use Rattle.vx_vers.proofs.reading.read_each.Goals as goal
 
@@ -18,9 +18,17 @@ parts-preserved g c =
     record {
       read = read_more Spells IsWithin texts c.in-Some.more.now c.cut.result.0.now behind c.parts.list c.push_next.new.list c.cut.ensures
           (subst (λ (rest : Option (List ℕ)). IsReadUpTo Spells IsWithin texts (kept_parts (parts_behind 124 rest)) c.parts.list) is c.parts.invariant.read) c.in_ok-push_next.ensures.ok;
+      plain = plain_behind c.args.plain 124 c.in-Some.more.now c.cut.result.0.now behind c.cut.ensures
+          (subst (λ (rest : Option (List ℕ)). IsPlainLeft c.args.plain rest) is c.parts.invariant.plain);
       room = room_left Spells IsWithin (length c.args.text.now + 1) c.in-Some.more.now c.cut.result.0.now behind c.parts.list c.push_next.new.list c.cut.ensures
           (subst (λ (rest : Option (List ℕ)). length c.parts.list + left rest ≤ length c.args.text.now + 1) is c.parts.invariant.room) c.in_ok-push_next.ensures.ok;
     }
+
+pub push_next-requires-clause-plain : goal.push_next-requires-clause-plain
+push_next-requires-clause-plain g c =
+    let is : option_copied c.parts.rest ≡ Some c.in-Some.more.now = ap option_copied c.in-Some.is in
+    plain_part c.args.plain 124 c.in-Some.more.now c.cut.result.0.now (option_copied c.cut.result.1) c.cut.ensures
+    (subst (λ (rest : Option (List ℕ)). IsPlainLeft c.args.plain rest) is c.parts.invariant.plain)
 
 pub returns-in_err-push_next : goal.returns-in_err-push_next
 returns-in_err-push_next g c =

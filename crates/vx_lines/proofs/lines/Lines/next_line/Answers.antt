@@ -11,6 +11,7 @@ invariant_of-self g c =
       record {
         ordered = next.good.ordered;
         within = next.good.within;
+        feed = next.good.feed;
         some = next.good.some;
         least = next.good.least;
         room = search rules;

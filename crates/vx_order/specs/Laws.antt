@@ -1,0 +1,3 @@
+pub mod Dotted
+pub mod Identifiers
+pub mod Scanning

@@ -1,5 +1,0 @@
-use Rattle.vx_text.proofs.PastLaws.{digits_utf8}
-use Rattle.vx_text.proofs.past.number_of.Goals as goal
-
-pub unreachable-requires : goal.unreachable-requires
-unreachable-requires c = c.in-Err.ensures.cases.0 (digits_utf8 c.args.digits.now c.requires)

@@ -1,0 +1,2 @@
+-- Words that the contracts of single steps need, and no public one.
+pub mod Places
