@@ -9,7 +9,7 @@ use Rattle.vx_range.specs.declared.piece.PieceReading.{PieceReading}
 use Rattle.vx_range.specs.declared.piece.PieceReading.TheVariants.{Construct, Past, NoConstruct}
 use Rattle.vx_range.specs.Pieces.{Written}
 use Rattle.vx_range.specs.Lists.{Plain, piece_of, piece_place}
-use Rattle.vx_range.specs.Reading.{AnswersPiece}
+use Rattle.vx_range.specs.Reading.{Answers, AnswersPiece}
 use Rattle.bracket_ranges.specs.declared.cutting.Kind.{Kind}
 use Rattle.bracket_ranges.specs.declared.cutting.Kind.TheVariants as kind_of
 use Rattle.bracket_ranges.specs.declared.bracket.Bound.{Bound}
@@ -17,7 +17,7 @@ use Rattle.bracket_ranges.specs.declared.bracket.Bracket.{Bracket}
 use Rattle.bracket_ranges.specs.declared.bracket.Bracket.TheVariants.{Exact, Between}
 use Rattle.bracket_ranges.specs.Reading.{Parts, IsBracket, BackLacks, ReadsBound, ReadsInside, ReadsParts, ReadsAs, side_past, parts_past, IsPast}
 use Rattle.bracket_ranges.specs.Laws.Reading.{one_end, one_parts}
-use Rattle.bracket_ranges.specs.Steps.Answers.{Answers, both}
+use Rattle.bracket_ranges.specs.Steps.Inside.{both}
 
 -- two commas are too many
 pub two_commas : (opening closing : ℕ) (between front behind back more : List ℕ) → IsCut 44 between front (Some behind) → IsCut 44 behind back (Some more)

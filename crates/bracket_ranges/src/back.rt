@@ -1,10 +1,10 @@
-ghost use Rattle.std.specs.Prelude.{◌≡◌, ◌++◌, Ok, Err, IfOk, IfErr, OnOk, codes, flat_map};
+ghost use Rattle.std.specs.Prelude.{◌≡◌, ◌++◌, Some, Ok, Err, IfOk, IfErr, OnOk, codes, if◌then◌else◌};
 ghost use Rattle.vx_scheme.specs.declared.domain.Domain.TheVariants as domain_of;
 ghost use Rattle.vx_scheme.specs.Native.{BackRefused};
-ghost use Rattle.bracket_ranges.specs.Back.{lower_text, upper_text, bounds_text, point_text, sides_text, span_text, spans_text, gap_fault, back};
+ghost use Rattle.bracket_ranges.specs.Back.{lower_text, upper_text, bounds_text, point_text, sides_text, span_text, text_behind, others_text, spans_text, back};
 
 use std::alloc::Global;
-use vx_range::is_point;
+use vx_range::{gap_fault, is_point};
 use vx_scheme::{BackFault, Cut, NoMemory, Scheme, Span, Text};
 
 /// The room for a span's text, which two versions of usual length take.
@@ -27,48 +27,62 @@ pub(crate) fn text_of<S: Scheme>(
     Ok(text)
 }
 
-/// What the gap before a span refuses. It takes no memory.
-fn gap_fault<S: Scheme>(
-    upper: &Option<Cut<S::Version>>,
-    lower: &Option<Cut<S::Version>>,
-) -> BackFault
-    ensures { result ≡ gap_fault S.order S.normal upper.now lower.now }
-{
-    match (upper, lower) {
-        (Some(upper), Some(lower)) if is_point::<S>(upper, lower) => {
-            BackFault::PointHole(lower.mark)
-        }
-        (_, Some(lower)) => BackFault::NotOneInterval(lower.mark),
-        (_, None) => BackFault::NotOneInterval(0),
-    }
-}
-
 /// The brackets of spans.
 fn text_of_spans<S: Scheme>(alloc: Global, spans: &[Span<S::Version>]) -> Result<Text, NoMemory>
     ensures { IfOk result (λ text. text ≡ spans_text S.order S.normal spans.now) }
 {
     let mut out = Text::with_room(alloc, spans.len().saturating_mul(USUAL_LENGTH))?;
     if let [first, others @ ..] = spans {
-        push_span::<S>(&mut out, first)?;
-        push_others::<S>(&mut out, others)?;
+        push_sides::<S>(&mut out, &first.lower, &first.upper)?;
+        push_others::<S>(&mut out, first, others)?;
     }
     Ok(out)
 }
 
-fn push_others<S: Scheme>(out: &mut Text, spans: &[Span<S::Version>]) -> Result<(), NoMemory>
-    ensures { OnOk result (out.new ≡ out.old ++ flat_map (λ span. codes "," ++ span_text S.order S.normal span) spans.now) }
+/// The brackets of the spans behind one.
+fn push_others<S: Scheme>(
+    out: &mut Text,
+    first: &Span<S::Version>,
+    spans: &[Span<S::Version>],
+) -> Result<(), NoMemory>
+    ensures { OnOk result (out.new ≡ out.old ++ others_text S.order S.normal first.now.upper spans.now) }
 {
+    let mut before = first;
     for span in spans {
         out.push_str(",")?;
-        push_span::<S>(out, span)?;
+        push_behind::<S>(out, &before.upper, &span.lower, &span.upper)?;
+        before = span;
     }
     Ok(())
 }
 
-fn push_span<S: Scheme>(out: &mut Text, span: &Span<S::Version>) -> Result<(), NoMemory>
-    ensures { OnOk result (out.new ≡ out.old ++ span_text S.order S.normal span.now) }
+/// The bracket of a span behind a gap, which begins at this cut. Behind a hole of one order class it is written with the
+/// version of the hole's first cut.
+fn push_behind<S: Scheme>(
+    out: &mut Text,
+    start: &Option<Cut<S::Version>>,
+    lower: &Option<Cut<S::Version>>,
+    upper: &Option<Cut<S::Version>>,
+) -> Result<(), NoMemory>
+    ensures { OnOk result (out.new ≡ out.old ++ text_behind S.order S.normal start.now lower.now upper.now) }
 {
-    match (&span.lower, &span.upper) {
+    match (start, lower) {
+        (Some(start), Some(lower)) if is_point::<S>(start, lower) => {
+            push_lower_at::<S>(out, lower.after, &start.version)?;
+            push_end::<S>(out, upper)
+        }
+        _ => push_sides::<S>(out, lower, upper),
+    }
+}
+
+fn push_sides<S: Scheme>(
+    out: &mut Text,
+    lower: &Option<Cut<S::Version>>,
+    upper: &Option<Cut<S::Version>>,
+) -> Result<(), NoMemory>
+    ensures { OnOk result (out.new ≡ out.old ++ sides_text S.order S.normal lower.now upper.now) }
+{
+    match (lower, upper) {
         (Some(lower), Some(upper)) if is_point::<S>(lower, upper) => {
             push_point::<S>(out, &lower.version)
         }
@@ -92,6 +106,12 @@ fn push_bounds<S: Scheme>(
     ensures { OnOk result (out.new ≡ out.old ++ bounds_text S.order S.normal lower.now upper.now) }
 {
     push_lower::<S>(out, lower)?;
+    push_end::<S>(out, upper)
+}
+
+fn push_end<S: Scheme>(out: &mut Text, upper: &Option<Cut<S::Version>>) -> Result<(), NoMemory>
+    ensures { OnOk result (out.new ≡ out.old ++ (codes "," ++ upper_text S.order S.normal upper.now)) }
+{
     out.push_str(",")?;
     push_upper::<S>(out, upper)
 }
@@ -99,11 +119,21 @@ fn push_bounds<S: Scheme>(
 fn push_lower<S: Scheme>(out: &mut Text, lower: &Option<Cut<S::Version>>) -> Result<(), NoMemory>
     ensures { OnOk result (out.new ≡ out.old ++ lower_text S.order S.normal lower.now) }
 {
-    let Some(cut) = lower else {
-        return out.push_str("(");
-    };
-    out.push_str(if cut.after { "(" } else { "[" })?;
-    S::write(&cut.version, out)
+    match lower {
+        Some(cut) => push_lower_at::<S>(out, cut.after, &cut.version),
+        None => out.push_str("("),
+    }
+}
+
+fn push_lower_at<S: Scheme>(
+    out: &mut Text,
+    after: bool,
+    version: &S::Version,
+) -> Result<(), NoMemory>
+    ensures { OnOk result (out.new ≡ out.old ++ ((if after then codes "(" else codes "[") ++ S.normal version.now)) }
+{
+    out.push_str(if after { "(" } else { "[" })?;
+    S::write(version, out)
 }
 
 fn push_upper<S: Scheme>(out: &mut Text, upper: &Option<Cut<S::Version>>) -> Result<(), NoMemory>

@@ -1,14 +1,13 @@
 ghost use Rattle.std.specs.Prelude.{◌≡◌, ◌≢◌, ◌+◌, ◌++◌, ◌<◌, ◌≤◌, ◌^◌, [], ◌∷◌, length, map, IfOk, OnOk};
 ghost use Rattle.std.specs.List.{AllByRecursion};
 ghost use Rattle.vx_spec.specs.Runs.{begins};
-ghost use Rattle.vx_range.specs.Pieces.{seen, seen_all, IsInPlace};
-ghost use Rattle.vx_range.specs.Lists.{piece_place, piece_of};
+ghost use Rattle.vx_range.specs.Pieces.{as_written, all_as_written, IsInPlace};
 ghost use Rattle.bracket_ranges.specs.Signs.{is_opening, is_closing, is_comma};
 ghost use Rattle.bracket_ranges.specs.Cutting.{bracket_pieces, closed_parts, end_piece, next_from, next_piece, next_pieces, pieces_of, IsCut};
 
 use std::alloc::{AllocError, Global};
-use vx_range::{Few, Groups, Piece, Pieces};
-use vx_text::{Blanks, ByteClass, past_run, trimmed};
+use vx_range::{Few, Groups, Piece, Pieces, piece_of};
+use vx_text::{Blanks, ByteClass, past_run};
 
 /// What a piece is.
 #[derive(Debug, Clone, Copy)]
@@ -64,32 +63,12 @@ fn first_part(text: &[u8]) -> (&[u8], &[u8])
     }
 }
 
-/// The text without the blanks at its ends, and where that begins, the text beginning at this place; a blank text is an
-/// empty piece at its own start. It takes no memory.
-pub(crate) fn piece_of(text: &[u8], at: usize) -> Piece<'_, ()>
-    requires { at + length text.now < 2 ^ 64 }
-    ensures piece { seen result ≡ piece_of at text.now }
-    ensures within { result.at + length result.bytes.now ≤ at + length text.now }
-{
-    let bytes = trimmed(text);
-    let before = if bytes.is_empty() {
-        0
-    } else {
-        text.len() - past_run::<Blanks>(text).len()
-    };
-    Piece {
-        kind: (),
-        at: at + before,
-        bytes,
-    }
-}
-
 /// The piece that is this end of a part. It takes no memory.
 fn end_piece<'a>(kind: Kind, at: usize, part: &[u8], end: &'a [u8]) -> BracketPiece<'a>
     requires place { at + length part.now < 2 ^ 64 }
     requires within { length end.now ≤ length part.now }
-    ensures piece { seen result ≡ end_piece kind at part.now end.now }
-    ensures placed { IsInPlace (seen result) }
+    ensures piece { as_written result ≡ end_piece kind at part.now end.now }
+    ensures placed { IsInPlace (as_written result) }
 {
     Piece {
         kind,
@@ -101,8 +80,8 @@ fn end_piece<'a>(kind: Kind, at: usize, part: &[u8], end: &'a [u8]) -> BracketPi
 /// The piece of a part behind a bracket. It takes no memory.
 fn next_piece(lists: bool, at: usize, part: &[u8]) -> BracketPiece<'_>
     requires { at + length part.now < 2 ^ 64 }
-    ensures piece { seen result ≡ next_piece lists at part.now }
-    ensures placed { IsInPlace (seen result) }
+    ensures piece { as_written result ≡ next_piece lists at part.now }
+    ensures placed { IsInPlace (as_written result) }
 {
     let from = past_run::<Blanks>(part);
     match from {
@@ -122,8 +101,8 @@ fn bracket_pieces(
 ) -> Result<Pieces<'_, Kind>, AllocError>
     requires some { text.now ≢ [] }
     requires place { at + length text.now < 2 ^ 64 }
-    ensures pieces { IfOk result (λ v. seen_all v ≡ bracket_pieces lists at (closed_parts text.now)) }
-    ensures placed { IfOk result (λ v. AllByRecursion IsInPlace (seen_all v)) }
+    ensures pieces { IfOk result (λ v. all_as_written v ≡ bracket_pieces lists at (closed_parts text.now)) }
+    ensures placed { IfOk result (λ v. AllByRecursion IsInPlace (all_as_written v)) }
 {
     let mut pieces = Few::new(alloc);
     let (bytes, behind) = first_part(text);
@@ -151,8 +130,8 @@ fn pieces_of(
     text: &[u8],
 ) -> Result<Pieces<'_, Kind>, AllocError>
     requires { at + length text.now < 2 ^ 64 }
-    ensures pieces { IfOk result (λ v. seen_all v ≡ pieces_of lists (record { kind = tt; at = at; bytes = text.now })) }
-    ensures placed { IfOk result (λ v. AllByRecursion IsInPlace (seen_all v)) }
+    ensures pieces { IfOk result (λ v. all_as_written v ≡ pieces_of lists (record { kind = tt; at = at; bytes = text.now })) }
+    ensures placed { IfOk result (λ v. AllByRecursion IsInPlace (all_as_written v)) }
 {
     match text {
         [b'(' | b'[', ..] => bracket_pieces(alloc, lists, at, text),
@@ -175,8 +154,8 @@ pub(crate) fn cut_text(
     text: &[u8],
 ) -> Result<Groups<'_, Kind>, AllocError>
     requires { length text.now < 2 ^ 64 }
-    ensures cut { IfOk result (λ groups. IsCut lists text.now (map seen_all groups)) }
-    ensures placed { IfOk result (λ groups. AllByRecursion (AllByRecursion IsInPlace) (map seen_all groups)) }
+    ensures cut { IfOk result (λ groups. IsCut lists text.now (map all_as_written groups)) }
+    ensures placed { IfOk result (λ groups. AllByRecursion (AllByRecursion IsInPlace) (map all_as_written groups)) }
 {
     let piece = piece_of(text, 0);
     let pieces = pieces_of(alloc, lists, piece.at, piece.bytes)?;

@@ -5,7 +5,7 @@ ghost use Rattle.bracket_ranges.specs.Spans.{lower_cut, upper_cut, next_mark, is
 use crate::bracket::{Bound, Bracket};
 use std::alloc::Global;
 use std::cmp::Ordering;
-use vx_range::push_point;
+use vx_range::{next_mark, push_point};
 use vx_scheme::{Cut, NoMemory, Scheme, Span, Spans};
 
 /// Appends the span of a bracket, if it has one.
@@ -44,18 +44,6 @@ fn is_empty<S: Scheme>(lower: &Option<Bound<S::Version>>, upper: &Option<Bound<S
         Ordering::Equal => !(lower.included && upper.included),
         Ordering::Greater => true,
     }
-}
-
-/// The mark of the next cut. Each cut lies in memory, so memory ends before the marks do.
-fn next_mark(marks: &mut u64) -> Result<u64, NoMemory>
-    ensures { IfOk result (λ mark. (mark ≡ marks.old) × (marks.new ≡ marks.old + 1)) }
-{
-    let mark = *marks;
-    let Some(next) = mark.checked_add(1) else {
-        return Err(NoMemory);
-    };
-    *marks = next;
-    Ok(mark)
 }
 
 /// The cut of a lower bound, if there is one.

@@ -9,16 +9,31 @@ use crate::bracket::{Bound, Bracket};
 use crate::range::BracketRange;
 use crate::table::Brackets;
 use nuget_scheme::{Nuget, NugetVersion, past_numeral};
+use vx_range::PlacedVersions;
 
 /// NuGet's versions with NuGet's range notation, after "Package versioning", "Version ranges": `V` alone, or one bracket.
 /// Order alone decides, pre-releases included.
 pub type NugetRange = BracketRange<Nuget>;
 
-impl Brackets for Nuget {
-    ghost use Rattle.std.specs.Prelude.{false};
+impl PlacedVersions<NugetRange> for Nuget {
     ghost use Rattle.nuget_scheme.specs.Past.{past_numeral_of};
     ghost use Rattle.nuget_scheme.proofs.Bytes.{spelled_utf8};
     ghost use Rattle.nuget_scheme.proofs.PastLaws.{limits_agree};
+
+    ghost first_past = { past_numeral_of };
+
+    ghost utf8 = { spelled_utf8 };
+
+    ghost limits = { limits_agree };
+
+    /// Where the first number, or label of digits alone, begins that passes 2^128-1.
+    fn first_past(text: &[u8], at: usize) -> Option<usize> {
+        past_numeral(text, at)
+    }
+}
+
+impl Brackets for Nuget {
+    ghost use Rattle.std.specs.Prelude.{false};
     ghost use Rattle.bracket_ranges.specs.Nuget.Alone.{alone};
     ghost use Rattle.bracket_ranges.specs.Laws.NugetTable.{spelled_word};
 
@@ -26,13 +41,7 @@ impl Brackets for Nuget {
 
     ghost alone = { alone };
 
-    ghost first_past = { past_numeral_of };
-
-    ghost utf8 = { spelled_utf8 };
-
     ghost words = { spelled_word };
-
-    ghost limits = { limits_agree };
 
     /// A text has one bracket.
     fn lists() -> bool {
@@ -46,11 +55,6 @@ impl Brackets for Nuget {
             included: true,
         };
         Bracket::Between(Some(lower), None)
-    }
-
-    /// Where the first number, or label of digits alone, begins that passes 2^128-1.
-    fn first_past(text: &[u8], at: usize) -> Option<usize> {
-        past_numeral(text, at)
     }
 }
 

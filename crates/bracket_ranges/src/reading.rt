@@ -1,19 +1,18 @@
-ghost use Rattle.std.specs.Prelude.{◌≡◌, ◌≢◌, ◌+◌, ◌++◌, [], ◌∷◌, true, ◌<◌, ◌≤◌, ◌^◌, None, Some, IfOk, IfErr, IfSome, MatchOption, length};
+ghost use Rattle.std.specs.Prelude.{◌≡◌, ◌+◌, ◌++◌, [], ◌∷◌, true, ◌<◌, ◌^◌, None, Some, IfOk, IfSome, MatchOption, length};
 ghost use Rattle.std.specs.Option.{option_copied};
-ghost use Rattle.vx_scheme.specs.Scheme.{Refuses};
-ghost use Rattle.vx_range.specs.Pieces.{seen, IsInPlace};
-ghost use Rattle.vx_range.specs.Reading.{AnswersPiece};
+ghost use Rattle.vx_range.specs.Pieces.{as_written, IsInPlace};
+ghost use Rattle.vx_range.specs.Reading.{Answers, AnswersPiece};
 ghost use Rattle.bracket_ranges.specs.Signs.{is_opening, is_closing, is_square};
 ghost use Rattle.bracket_ranges.specs.Reading.{Parts, IsBracket, ReadsBound, ReadsInside, ReadsParts, ReadsAs, side_past, inside_past, parts_past, IsPast};
-ghost use Rattle.bracket_ranges.specs.Steps.Answers.{Answers, both, parts_of, inside_length};
+ghost use Rattle.bracket_ranges.specs.Steps.Inside.{both, parts_of, inside_length};
 
 use crate::bracket::{Bound, Bracket};
-use crate::cutting::{BracketPiece, Kind, is_closing, is_opening, piece_of};
+use crate::cutting::{BracketPiece, Kind, is_closing, is_opening};
+use crate::range::BracketRange;
 use crate::table::Brackets;
 use std::alloc::Global;
-use std::str;
-use vx_range::PieceReading;
-use vx_scheme::{NoMemory, VersionFault};
+use vx_range::{PieceReading, piece_of, read_version};
+use vx_scheme::NoMemory;
 use vx_text::cut_bytes;
 
 /// The signs of a bracket, and what stands between them: before the comma, and behind it, where there is one.
@@ -37,11 +36,11 @@ pub(crate) fn read_piece<B: Brackets>(
     alloc: Global,
     piece: &BracketPiece,
 ) -> Result<PieceReading<Bracket<B::Version>>, NoMemory>
-    requires { IsInPlace (seen piece.now) }
-    ensures { IfOk result (AnswersPiece (ReadsAs B.Spells B.alone) (IsPast B.Spells B.first_past) (seen piece.now)) }
+    requires { IsInPlace (as_written piece.now) }
+    ensures { IfOk result (AnswersPiece (ReadsAs B.Spells B.alone) (IsPast B.Spells B.first_past) (as_written piece.now)) }
 {
     match piece.kind {
-        Kind::Alone => match read_version::<B>(alloc, piece.bytes, piece.at)? {
+        Kind::Alone => match read_version::<BracketRange<B>, B>(alloc, piece.bytes, piece.at)? {
             PieceReading::Construct(version) => Ok(PieceReading::Construct(B::alone(version))),
             PieceReading::Past(at) => Ok(PieceReading::Past(at)),
             PieceReading::NoConstruct => Ok(PieceReading::NoConstruct),
@@ -127,7 +126,7 @@ fn read_exact<B: Brackets>(
     requires { at + length text.now < 2 ^ 64 }
     ensures { IfOk result (Answers (ReadsInside B.Spells true true text.now None) (B.first_past at text.now)) }
 {
-    match read_version::<B>(alloc, text, at)? {
+    match read_version::<BracketRange<B>, B>(alloc, text, at)? {
         PieceReading::Construct(version) => Ok(PieceReading::Construct(Bracket::Exact(version))),
         PieceReading::Past(at) => Ok(PieceReading::Past(at)),
         PieceReading::NoConstruct => Ok(PieceReading::NoConstruct),
@@ -189,51 +188,11 @@ fn read_bound<B: Brackets>(
     if text.bytes.is_empty() {
         return Ok(PieceReading::Construct(None));
     }
-    match read_version::<B>(alloc, text.bytes, text.at)? {
+    match read_version::<BracketRange<B>, B>(alloc, text.bytes, text.at)? {
         PieceReading::Construct(version) => {
             Ok(PieceReading::Construct(Some(Bound { version, included })))
         }
         PieceReading::Past(at) => Ok(PieceReading::Past(at)),
         PieceReading::NoConstruct => Ok(PieceReading::NoConstruct),
-    }
-}
-
-/// What the bytes spell, which begin at this place.
-fn read_version<B: Brackets>(
-    alloc: Global,
-    bytes: &[u8],
-    at: usize,
-) -> Result<PieceReading<B::Version>, NoMemory>
-    requires { at + length bytes.now < 2 ^ 64 }
-    ensures { IfOk result (Answers (B.Spells bytes.now) (B.first_past at bytes.now)) }
-{
-    match version::<B>(alloc, bytes) {
-        Ok(version) => Ok(PieceReading::Construct(version)),
-        Err(VersionFault::NotAVersion) => Ok(PieceReading::NoConstruct),
-        Err(VersionFault::Numeral) => Ok(PieceReading::Past(past_place::<B>(bytes, at))),
-        Err(VersionFault::NoMemory) => Err(NoMemory),
-    }
-}
-
-/// The version that the bytes spell.
-fn version<B: Brackets>(alloc: Global, bytes: &[u8]) -> Result<B::Version, VersionFault>
-    ensures ok { IfOk result (λ version. B.Spells bytes.now version × B.IsWithin version) }
-    ensures err { IfErr result (Refuses B.Spells B.IsWithin bytes.now) }
-{
-    match str::from_utf8(bytes) {
-        Ok(text) => B::read(alloc, text),
-        Err(_) => Err(VersionFault::NotAVersion),
-    }
-}
-
-/// Where the first numeral past the limit begins, of which there is one.
-fn past_place<B: Brackets>(text: &[u8], at: usize) -> usize
-    requires place { at + length text.now < 2 ^ 64 }
-    requires past { B.first_past at text.now ≢ None }
-    ensures { B.first_past at text.now ≡ Some result }
-{
-    match B::first_past(text, at) {
-        Some(place) => place,
-        None => unreachable!(),
     }
 }

@@ -5,7 +5,9 @@ use Rattle.std.proofs.lemmas.List.{drop_more}
 use Rattle.semver.specs.Parse.{Parts}
 use Rattle.vx_scheme.specs.declared.back_fault.BackFault.{BackFault}
 use Rattle.vx_scheme.specs.declared.span.Span.{Span}
-use Rattle.cargo_range.specs.Back.{move_span, is_proper, touch, join_behind, gap_fault, back_of}
+use Rattle.vx_range.specs.Gaps.{gap_fault}
+use Rattle.cargo_range.specs.Order.{precedence}
+use Rattle.cargo_range.specs.Back.{move_span, is_proper, touch, join_behind, back_of}
 use Rattle.cargo_range.specs.Steps.Intervals.{join_next, some_interval, extend, joined_from}
 
 -- the first of the joined spans begins where the first span does
@@ -26,10 +28,10 @@ begins span (next ∷ spans) = elim (cases_Bool (touch span.upper next.lower)) [
 
 -- a gap before a span is the first one
 gap_stops : (before span : Span Parts) (rest : List (Span Parts)) → touch before.upper span.lower ≡ false
-    → back_of (joined_from (Some before) (span ∷ rest)) ≡ Err (gap_fault before.upper span.lower)
+    → back_of (joined_from (Some before) (span ∷ rest)) ≡ Err (gap_fault precedence before.upper span.lower)
 gap_stops before span rest apart =
     let b = begins span rest in
-    rw (apart, b.are) (ap (λ lower. Err (gap_fault before.upper lower)) b.lower)
+    rw (apart, b.are) (ap (λ lower. Err (gap_fault precedence before.upper lower)) b.lower)
 
 value_of : (a b : Option (Span Parts)) → ◌≡◌ {A = Result (Option (Span Parts)) BackFault} (Ok a) (Ok b) → a ≡ b
 value_of a b e = cc e
@@ -46,7 +48,7 @@ next_goes : (before found : Option (Span Parts)) (span : Span Parts) (rest : Lis
 next_goes None found span rest e = ap (λ f. joined_from f rest) (sym (value_of (Some span) found e))
 next_goes (Some before) found span rest e = elim (cases_Bool (touch before.upper span.lower)) [
   | inl held ↦ rw held (ap (λ f. joined_from f rest) (sym (value_of (Some (record { lower = before.lower; upper = span.upper })) found (rw held at e))))
-  | inr other ↦ absurd (ok_err found (gap_fault before.upper span.lower) (sym (rw other at e)))
+  | inr other ↦ absurd (ok_err found (gap_fault precedence before.upper span.lower) (sym (rw other at e)))
 ]
 
 next_stops : (before : Option (Span Parts)) (span : Span Parts) (rest : List (Span Parts)) (fault : BackFault)
@@ -54,7 +56,7 @@ next_stops : (before : Option (Span Parts)) (span : Span Parts) (rest : List (Sp
 next_stops None span rest fault e = absurd (ok_err (Some span) fault e)
 next_stops (Some before) span rest fault e = elim (cases_Bool (touch before.upper span.lower)) [
   | inl held ↦ absurd (ok_err (Some (record { lower = before.lower; upper = span.upper })) fault (rw held at e))
-  | inr other ↦ gap_stops before span rest other ∙ ap Err (fault_of (gap_fault before.upper span.lower) fault (rw other at e))
+  | inr other ↦ gap_stops before span rest other ∙ ap Err (fault_of (gap_fault precedence before.upper span.lower) fault (rw other at e))
 ]
 
 pub extend_goes : (before found : Option (Span Parts)) (span : Span Parts) (rest : List (Span Parts))

@@ -9,10 +9,11 @@ use Rattle.semver.specs.declared.Op.TheVariants as op
 use Rattle.vx_scheme.specs.declared.domain.Domain.{Domain}
 use Rattle.vx_scheme.specs.declared.domain.Domain.TheVariants.{All, Releases}
 use Rattle.vx_scheme.specs.declared.back_fault.BackFault.{BackFault}
-use Rattle.vx_scheme.specs.declared.back_fault.BackFault.TheVariants.{NotOneInterval, PointHole, NothingInDomain}
+use Rattle.vx_scheme.specs.declared.back_fault.BackFault.TheVariants.{NothingInDomain}
 use Rattle.vx_scheme.specs.declared.span.Cut.{Cut}
 use Rattle.vx_scheme.specs.declared.span.Span.{Span}
 use Rattle.vx_scheme.specs.Cuts.{cut_cmp}
+use Rattle.vx_range.specs.Gaps.{gap_fault}
 use Rattle.vx_range.specs.Spans.{is_point}
 use Rattle.cargo_range.specs.declared.construct.Construct.{Construct}
 use Rattle.cargo_range.specs.declared.construct.Partial.TheVariants.{Full}
@@ -133,18 +134,11 @@ interval_text span = requirement_text (bounds_of span.lower span.upper)
 
 -- ---- refusals
 
--- What a gap between two spans refuses: a hole of one order class, or any other gap. Its number is the mark of the cut that
--- begins the next span, which spans in order have.
-abbrev pub gap_fault : Option (Cut Parts) → Option (Cut Parts) → BackFault
-gap_fault None (Some lower) = NotOneInterval lower.mark
-gap_fault (Some upper) (Some lower) = if is_point precedence upper lower then PointHole lower.mark else NotOneInterval lower.mark
-gap_fault upper None = NotOneInterval 0
-
 -- the text of one interval; where no span is left no release is meant, and where more are the first gap is refused
 abbrev pub back_of : List (Span Parts) → Result (List ℕ) BackFault
 back_of [] = Err (NothingInDomain 1)
 back_of (span ∷ []) = Ok (interval_text span)
-back_of (span ∷ next ∷ spans) = Err (gap_fault span.upper next.lower)
+back_of (span ∷ next ∷ spans) = Err (gap_fault precedence span.upper next.lower)
 
 -- the text of spans, or its first refusal; in the domain of all, which is not offered, nothing is printed
 abbrev pub back : Domain → List (Span Parts) → Result (List ℕ) BackFault

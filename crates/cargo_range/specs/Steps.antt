@@ -1,4 +1,3 @@
-pub mod Begun
 pub mod Pushed
 pub mod Forms
 pub mod Terms

@@ -2,14 +2,14 @@ ghost use Rattle.std.specs.Prelude.{◌≡◌, ◌++◌, ◌∷◌, [], Some, Ok
 ghost use Rattle.vx_scheme.specs.Cuts.{cut_cmp};
 ghost use Rattle.vx_scheme.specs.Native.{BackRefused};
 ghost use Rattle.cargo_range.specs.Order.{precedence};
-ghost use Rattle.cargo_range.specs.Back.{sign_text, bound_text, lower_bound, upper_bound, requirement_text, bounds_of, interval_text, move_cut, move_bound, move_span, is_proper, touch, among_releases, gap_fault, back_of};
+ghost use Rattle.cargo_range.specs.Back.{sign_text, bound_text, lower_bound, upper_bound, requirement_text, bounds_of, interval_text, move_cut, move_bound, move_span, is_proper, touch, among_releases, back_of};
 ghost use Rattle.cargo_range.specs.Steps.Intervals.{join_next, extend};
 
 use crate::scheme::Cargo;
 use crate::version::{CargoVersion, release};
 use std::alloc::Global;
 use std::cmp::Ordering;
-use vx_range::is_point;
+use vx_range::{gap_fault, is_point};
 use vx_scheme::{BackFault, Cut, NoMemory, Scheme, Span, Text};
 
 /// The sign of a comparator that is printed.
@@ -96,19 +96,6 @@ fn touch(upper: &Option<Cut<CargoVersion>>, lower: &Option<Cut<CargoVersion>>) -
     }
 }
 
-/// What the gap before a span refuses. It takes no memory.
-fn gap_fault(upper: &Option<Cut<CargoVersion>>, lower: &Option<Cut<CargoVersion>>) -> BackFault
-    ensures { result ≡ gap_fault upper.now lower.now }
-{
-    match (upper, lower) {
-        (Some(upper), Some(lower)) if is_point::<Cargo>(upper, lower) => {
-            BackFault::PointHole(lower.mark)
-        }
-        (_, Some(lower)) => BackFault::NotOneInterval(lower.mark),
-        (_, None) => BackFault::NotOneInterval(0),
-    }
-}
-
 /// The interval so far with the next span, which it has to touch.
 fn join_next(
     before: Option<Span<CargoVersion>>,
@@ -120,7 +107,7 @@ fn join_next(
         return Ok(span);
     };
     if !touch(&before.upper, &span.lower) {
-        return Err(gap_fault(&before.upper, &span.lower));
+        return Err(gap_fault::<Cargo>(&before.upper, &span.lower));
     }
     Ok(Span {
         lower: before.lower,

@@ -1,23 +1,23 @@
-ghost use Rattle.std.specs.Prelude.{◌≡◌, ◌+◌, ◌++◌, [], false, true, Some, IfOk, IfErr, OnOk};
+ghost use Rattle.std.specs.Prelude.{◌≡◌, ◌+◌, false, Some, IfOk, IfErr, OnOk};
 ghost use Rattle.semver.specs.declared.Op.TheVariants as op;
-ghost use Rattle.vx_range.specs.Spans.{between};
+ghost use Rattle.vx_range.specs.Steps.Raised.{IsRaised, IsTooLarge};
 ghost use Rattle.cargo_range.specs.declared.construct.Partial.TheVariants.{Full};
 ghost use Rattle.cargo_range.specs.Version.{release_of};
 ghost use Rattle.cargo_range.specs.Refusals.{is_raisable};
-ghost use Rattle.cargo_range.specs.Spans.{closed, lowest_of, to_next_major, to_next_minor};
-ghost use Rattle.cargo_range.specs.Steps.Pushed.{IsPushed, IsPushedFor, IsTooLarge, IsTooLargeFor};
+ghost use Rattle.cargo_range.specs.Spans.{lowest_of, to_next_major, to_next_minor};
+ghost use Rattle.cargo_range.specs.Steps.Pushed.{IsRow, IsRefused, IsPushed};
 
 use crate::construct::{Construct, Partial};
 use crate::scheme::Cargo;
 use crate::version::{CargoVersion, release};
 use semver::Op;
 use std::alloc::Global;
-use vx_range::{push_above, push_below, push_between, push_from, push_point, push_up_to};
-use vx_scheme::{Cut, NoMemory, Span, Spans, StepFault};
+use vx_range::{Extent, push_extent};
+use vx_scheme::{Spans, StepFault};
 
 /// One more than a number, unless that is past the limit.
 fn raise(number: u64) -> Result<u64, StepFault>
-    ensures ok { IfOk result (λ next. (next ≡ number + 1) × (is_raisable (Some number) ≡ true)) }
+    ensures ok { IfOk result (IsRaised (is_raisable (Some number)) (number + 1)) }
     ensures err { IfErr result (λ _. is_raisable (Some number) ≡ false) }
 {
     match number.checked_add(1) {
@@ -28,8 +28,8 @@ fn raise(number: u64) -> Result<u64, StepFault>
 
 /// `(M+1).0.0`
 fn next_major(major: u64) -> Result<CargoVersion, StepFault>
-    ensures ok { IfOk result (λ next. (next ≡ release_of (major + 1) 0 0) × (is_raisable (Some major) ≡ true)) }
-    ensures err { IfErr result (IsTooLarge (Some major)) }
+    ensures ok { IfOk result (IsRaised (is_raisable (Some major)) (release_of (major + 1) 0 0)) }
+    ensures err { IfErr result (IsTooLarge (is_raisable (Some major))) }
 {
     let major = raise(major)?;
     Ok(release(major, 0, 0))
@@ -37,85 +37,41 @@ fn next_major(major: u64) -> Result<CargoVersion, StepFault>
 
 /// `M.(m+1).0`
 fn next_minor(major: u64, minor: u64) -> Result<CargoVersion, StepFault>
-    ensures ok { IfOk result (λ next. (next ≡ release_of major (minor + 1) 0) × (is_raisable (Some minor) ≡ true)) }
-    ensures err { IfErr result (IsTooLarge (Some minor)) }
+    ensures ok { IfOk result (IsRaised (is_raisable (Some minor)) (release_of major (minor + 1) 0)) }
+    ensures err { IfErr result (IsTooLarge (is_raisable (Some minor))) }
 {
     let minor = raise(minor)?;
     Ok(release(major, minor, 0))
 }
 
-/// Appends `[V, W]`. Each cut lies in memory, so memory ends before the marks do.
-fn push_closed(
-    marks: &mut u64,
-    version: CargoVersion,
-    end: CargoVersion,
-    out: &mut Spans<CargoVersion>,
-) -> Result<(), NoMemory>
-    ensures span { OnOk result (out.new ≡ out.old ++ closed marks.old version end) }
-    ensures marks { OnOk result (marks.new ≡ marks.old + 2) }
-{
-    let mark = *marks;
-    let Some(next) = mark.checked_add(2) else {
-        return Err(NoMemory);
-    };
-    *marks = next;
-    out.push(Span {
-        lower: Some(Cut {
-            version,
-            after: false,
-            mark,
-        }),
-        upper: Some(Cut {
-            version: end,
-            after: true,
-            mark: mark + 1,
-        }),
-    })
-}
-
 /// From a version to the end of those with its first number.
-fn to_next_major(
-    marks: &mut u64,
-    low: CargoVersion,
-    out: &mut Spans<CargoVersion>,
-) -> Result<(), StepFault>
-    ensures ok { OnOk result (IsPushed (Some low.0) (to_next_major marks.old low) marks.old marks.new out.old out.new) }
-    ensures err { IfErr result (IsTooLarge (Some low.0)) }
+fn to_next_major(low: CargoVersion) -> Result<Extent<CargoVersion>, StepFault>
+    ensures ok { IfOk result (IsRaised (is_raisable (Some low.0)) (to_next_major low)) }
+    ensures err { IfErr result (IsTooLarge (is_raisable (Some low.0))) }
 {
     let end = next_major(low.inner.major)?;
-    push_between(marks, low, end, out)?;
-    Ok(())
+    Ok(Extent::Between(low, end))
 }
 
 /// From a version to the end of those with its first two numbers.
-fn to_next_minor(
-    marks: &mut u64,
-    low: CargoVersion,
-    out: &mut Spans<CargoVersion>,
-) -> Result<(), StepFault>
-    ensures ok { OnOk result (IsPushed (Some low.1) (to_next_minor marks.old low) marks.old marks.new out.old out.new) }
-    ensures err { IfErr result (IsTooLarge (Some low.1)) }
+fn to_next_minor(low: CargoVersion) -> Result<Extent<CargoVersion>, StepFault>
+    ensures ok { IfOk result (IsRaised (is_raisable (Some low.1)) (to_next_minor low)) }
+    ensures err { IfErr result (IsTooLarge (is_raisable (Some low.1))) }
 {
     let end = next_minor(low.inner.major, low.inner.minor)?;
-    push_between(marks, low, end, out)?;
-    Ok(())
+    Ok(Extent::Between(low, end))
 }
 
 /// `>`
-fn push_greater(
-    marks: &mut u64,
-    partial: Partial,
-    out: &mut Spans<CargoVersion>,
-) -> Result<(), StepFault>
-    ensures ok { OnOk result (IsPushedFor op.Greater partial marks.old marks.new out.old out.new) }
-    ensures err { IfErr result (IsTooLargeFor op.Greater partial) }
+fn greater(partial: Partial) -> Result<Extent<CargoVersion>, StepFault>
+    ensures ok { IfOk result (IsRow op.Greater partial) }
+    ensures err { IfErr result (IsRefused op.Greater partial) }
 {
     match partial {
-        Partial::Full(version) => push_above(marks, version, out)?,
-        Partial::Minor(major, minor) => push_from(marks, next_minor(major, minor)?, out)?,
-        Partial::Major(major) => push_from(marks, next_major(major)?, out)?,
+        Partial::Full(version) => Ok(Extent::Above(version)),
+        Partial::Minor(major, minor) => Ok(Extent::From(next_minor(major, minor)?)),
+        Partial::Major(major) => Ok(Extent::From(next_major(major)?)),
     }
-    Ok(())
 }
 
 /// The version that a partial names, or the lowest release of those that it names. It takes no memory.
@@ -130,88 +86,82 @@ fn lowest(partial: Partial) -> CargoVersion
 }
 
 /// `<=`
-fn push_less_equal(
-    marks: &mut u64,
-    partial: Partial,
-    out: &mut Spans<CargoVersion>,
-) -> Result<(), StepFault>
-    ensures ok { OnOk result (IsPushedFor op.LessEq partial marks.old marks.new out.old out.new) }
-    ensures err { IfErr result (IsTooLargeFor op.LessEq partial) }
+fn less_equal(partial: Partial) -> Result<Extent<CargoVersion>, StepFault>
+    ensures ok { IfOk result (IsRow op.LessEq partial) }
+    ensures err { IfErr result (IsRefused op.LessEq partial) }
 {
     match partial {
-        Partial::Full(version) => push_up_to(marks, version, out)?,
-        Partial::Minor(major, minor) => push_below(marks, next_minor(major, minor)?, out)?,
-        Partial::Major(major) => push_below(marks, next_major(major)?, out)?,
+        Partial::Full(version) => Ok(Extent::UpTo(version)),
+        Partial::Minor(major, minor) => Ok(Extent::Below(next_minor(major, minor)?)),
+        Partial::Major(major) => Ok(Extent::Below(next_major(major)?)),
     }
-    Ok(())
 }
 
 /// `~`
-fn push_tilde(
-    marks: &mut u64,
-    partial: Partial,
-    out: &mut Spans<CargoVersion>,
-) -> Result<(), StepFault>
-    ensures ok { OnOk result (IsPushedFor op.Tilde partial marks.old marks.new out.old out.new) }
-    ensures err { IfErr result (IsTooLargeFor op.Tilde partial) }
+fn tilde(partial: Partial) -> Result<Extent<CargoVersion>, StepFault>
+    ensures ok { IfOk result (IsRow op.Tilde partial) }
+    ensures err { IfErr result (IsRefused op.Tilde partial) }
 {
     match partial {
-        Partial::Full(version) => to_next_minor(marks, version, out),
-        Partial::Minor(major, minor) => to_next_minor(marks, release(major, minor, 0), out),
-        Partial::Major(major) => to_next_major(marks, release(major, 0, 0), out),
+        Partial::Full(version) => to_next_minor(version),
+        Partial::Minor(major, minor) => to_next_minor(release(major, minor, 0)),
+        Partial::Major(major) => to_next_major(release(major, 0, 0)),
     }
 }
 
 /// `=`, or a wildcard. Of one number or two it is `~`.
-fn push_exact(
-    alloc: Global,
-    marks: &mut u64,
-    partial: Partial,
-    out: &mut Spans<CargoVersion>,
-) -> Result<(), StepFault>
-    ensures ok { OnOk result (IsPushedFor op.Exact partial marks.old marks.new out.old out.new) }
-    ensures err { IfErr result (IsTooLargeFor op.Exact partial) }
+fn exact(partial: Partial) -> Result<Extent<CargoVersion>, StepFault>
+    ensures ok { IfOk result (IsRow op.Exact partial) }
+    ensures err { IfErr result (IsRefused op.Exact partial) }
 {
     match partial {
-        Partial::Full(version) => Ok(push_point::<Cargo>(alloc, marks, version, out)?),
-        shorter => push_tilde(marks, shorter, out),
+        Partial::Full(version) => Ok(Extent::Point(version)),
+        shorter => tilde(shorter),
     }
 }
 
 /// `^` of three numbers: the first that is not 0 is raised; where the first two are 0, nothing is.
-fn push_caret_of_full(
-    marks: &mut u64,
-    version: CargoVersion,
-    out: &mut Spans<CargoVersion>,
-) -> Result<(), StepFault>
-    ensures ok { OnOk result (IsPushedFor op.Caret (Full version) marks.old marks.new out.old out.new) }
-    ensures err { IfErr result (IsTooLargeFor op.Caret (Full version)) }
+fn caret_of_full(version: CargoVersion) -> Result<Extent<CargoVersion>, StepFault>
+    ensures ok { IfOk result (IsRow op.Caret (Full version)) }
+    ensures err { IfErr result (IsRefused op.Caret (Full version)) }
 {
     if version.inner.major != 0 {
-        return to_next_major(marks, version, out);
+        return to_next_major(version);
     }
     if version.inner.minor != 0 {
-        return to_next_minor(marks, version, out);
+        return to_next_minor(version);
     }
     let end = release(0, 0, version.inner.patch);
-    push_closed(marks, version, end, out)?;
-    Ok(())
+    Ok(Extent::Closed(version, end))
 }
 
 /// `^`, or no operator.
-fn push_caret(
-    marks: &mut u64,
-    partial: Partial,
-    out: &mut Spans<CargoVersion>,
-) -> Result<(), StepFault>
-    ensures ok { OnOk result (IsPushedFor op.Caret partial marks.old marks.new out.old out.new) }
-    ensures err { IfErr result (IsTooLargeFor op.Caret partial) }
+fn caret(partial: Partial) -> Result<Extent<CargoVersion>, StepFault>
+    ensures ok { IfOk result (IsRow op.Caret partial) }
+    ensures err { IfErr result (IsRefused op.Caret partial) }
 {
     match partial {
-        Partial::Full(version) => push_caret_of_full(marks, version, out),
-        Partial::Minor(0, minor) => to_next_minor(marks, release(0, minor, 0), out),
-        Partial::Minor(major, minor) => to_next_major(marks, release(major, minor, 0), out),
-        Partial::Major(major) => to_next_major(marks, release(major, 0, 0), out),
+        Partial::Full(version) => caret_of_full(version),
+        Partial::Minor(0, minor) => to_next_minor(release(0, minor, 0)),
+        Partial::Minor(major, minor) => to_next_major(release(major, minor, 0)),
+        Partial::Major(major) => to_next_major(release(major, 0, 0)),
+    }
+}
+
+/// The extent of a comparator, unless a number would be raised past the limit.
+fn extent_of(construct: Construct) -> Result<Extent<CargoVersion>, StepFault>
+    ensures ok { IfOk result (IsRow construct.operator construct.partial) }
+    ensures err { IfErr result (IsRefused construct.operator construct.partial) }
+{
+    let Construct { operator, partial } = construct;
+    match operator {
+        Op::Exact | Op::Wildcard => exact(partial),
+        Op::Greater => greater(partial),
+        Op::GreaterEq => Ok(Extent::From(lowest(partial))),
+        Op::Less => Ok(Extent::Below(lowest(partial))),
+        Op::LessEq => less_equal(partial),
+        Op::Tilde => tilde(partial),
+        Op::Caret => caret(partial),
     }
 }
 
@@ -223,17 +173,10 @@ pub(crate) fn push_spans(
     marks: &mut u64,
     out: &mut Spans<CargoVersion>,
 ) -> Result<(), StepFault>
-    ensures ok { OnOk result (IsPushedFor construct.operator construct.partial marks.old marks.new out.old out.new) }
-    ensures err { IfErr result (IsTooLargeFor construct.operator construct.partial) }
+    ensures ok { OnOk result (IsPushed construct marks.old marks.new out.old out.new) }
+    ensures err { IfErr result (IsRefused construct.operator construct.partial) }
 {
-    let Construct { operator, partial } = construct;
-    match operator {
-        Op::Exact | Op::Wildcard => push_exact(alloc, marks, partial, out),
-        Op::Greater => push_greater(marks, partial, out),
-        Op::GreaterEq => Ok(push_from(marks, lowest(partial), out)?),
-        Op::Less => Ok(push_below(marks, lowest(partial), out)?),
-        Op::LessEq => push_less_equal(marks, partial, out),
-        Op::Tilde => push_tilde(marks, partial, out),
-        Op::Caret => push_caret(marks, partial, out),
-    }
+    let extent = extent_of(construct)?;
+    push_extent::<Cargo>(alloc, extent, marks, out)?;
+    Ok(())
 }

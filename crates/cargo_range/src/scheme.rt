@@ -1,9 +1,10 @@
 use crate::order::compare_versions;
+use crate::spelling;
 use crate::version::{CargoVersion, copy};
-use crate::{spelling, writing};
 use std::alloc::Global;
 use std::cmp::Ordering;
 use vx_scheme::{NoMemory, Scheme, SchemeName, Text, VersionFault};
+use vx_text::push_whole;
 
 /// Cargo: its versions, and its range language.
 #[derive(Debug, Clone, Copy)]
@@ -50,7 +51,7 @@ impl Scheme for Cargo {
     /// Appends the normal text, which leaves the build out.
     fn write(version: &CargoVersion, out: &mut Text) -> Result<(), NoMemory> {
         let _version = &version.inner;
-        writing::write(version, out)
+        push_whole(version, out)
     }
 
     /// How two versions compare by precedence.

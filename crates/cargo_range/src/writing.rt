@@ -1,35 +1,26 @@
-ghost use Rattle.std.specs.Prelude.{◌≡◌, ◌<◌, ◌^◌, ◌++◌, ◌∷◌, [], List, ℕ, codes, OnOk, OnErr};
+ghost use Rattle.std.specs.Prelude.{◌≡◌, ◌<◌, ◌^◌, ◌++◌, ◌∷◌, [], List, ℕ, codes, OnOk};
 ghost use Rattle.std.specs.Fmt.{decimal};
 ghost use Rattle.semver.specs.Identifiers.{marked, pre_text};
-ghost use Rattle.cargo_range.specs.Writing.{normal};
-ghost use Rattle.cargo_range.specs.Steps.Begun.{IsBegunBy};
+ghost use Rattle.vx_text.specs.Begun.{IsBegunBy};
 
 use crate::version::CargoVersion;
 use semver::Prerelease;
 use vx_scheme::{NoMemory, Text};
+use vx_text::Pushes;
 
-/// Appends the normal text. A refused call leaves the text as it was.
-pub(crate) fn write(version: &CargoVersion, out: &mut Text) -> Result<(), NoMemory>
-    ensures ok { OnOk result (out.new ≡ out.old ++ normal version.now) }
-    ensures err { OnErr result (out.new ≡ out.old) }
-{
-    let start = out.as_str().len();
-    let written = push_version(out, version);
-    if written.is_err() {
-        out.cut(start);
+impl Pushes for CargoVersion {
+    ghost use Rattle.cargo_range.specs.Writing.{normal};
+
+    ghost text = { normal };
+
+    /// Appends the normal text.
+    fn push(&self, out: &mut Text) -> Result<(), NoMemory> {
+        let version = &self.inner;
+        push_dotted(out, version.major)?;
+        push_dotted(out, version.minor)?;
+        push_number(out, version.patch)?;
+        push_pre(out, &version.pre)
     }
-    written
-}
-
-fn push_version(out: &mut Text, version: &CargoVersion) -> Result<(), NoMemory>
-    ensures ok { OnOk result (out.new ≡ out.old ++ normal version.now) }
-    ensures begun { IsBegunBy out.old out.new }
-{
-    let version = &version.inner;
-    push_dotted(out, version.major)?;
-    push_dotted(out, version.minor)?;
-    push_number(out, version.patch)?;
-    push_pre(out, &version.pre)
 }
 
 fn push_dotted(out: &mut Text, number: u64) -> Result<(), NoMemory>

@@ -5,7 +5,8 @@ use Rattle.std.specs.Char.{is_ascii_digit}
 use Rattle.std.specs.Str.{IsUtf8}
 use Rattle.std.proofs.lemmas.Bool.Decides.{nat_tests}
 use Rattle.vx_spec.proofs.TextLaws.{each_by_test, test_by_each, utf8_by_each}
-use Rattle.vx_text.specs.EpochParts.{Parts, colon, whole}
+use Rattle.vx_spec.specs.Signs.{colon}
+use Rattle.vx_text.specs.EpochParts.{Parts, whole}
 use Rattle.vx_text.proofs.EpochLaws.{last_each, whole_each}
 use Rattle.deb_scheme.specs.Version.{Fields}
 use Rattle.deb_scheme.specs.Laws.Unique.{made_of}

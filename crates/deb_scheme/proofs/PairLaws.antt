@@ -4,8 +4,8 @@ use Rattle.std.specs.List.{AllByRecursion, prefix_len}
 use Rattle.vx_spec.specs.Runs.{run}
 use Rattle.vx_spec.specs.Numerals.{value}
 use Rattle.vx_spec.proofs.EachLaws.{each_append, each_behind}
-use Rattle.vx_order.specs.Letters.{end_letter}
-use Rattle.deb_scheme.specs.Version.{is_other, first_letters, first_pair, byte_letter, LetterIsWithin, end_rank, number_letter}
+use Rattle.vx_order.specs.Letters.{LetterIsWithin, end_letter}
+use Rattle.deb_scheme.specs.Version.{is_other, first_letters, first_pair, byte_letter, end_rank, number_letter}
 
 -- the letters of a pair are within the limit where its bytes and its number are
 bytes_within : (others : List ℕ) → AllByRecursion (λ b. b < 2 ^ 128) others → AllByRecursion LetterIsWithin (map byte_letter others)

@@ -12,10 +12,13 @@ use Rattle.vx_spec.proofs.TextLaws.{each_by_test}
 use Rattle.vx_order.specs.Scanning.{scanned_in}
 use Rattle.vx_order.specs.Laws.Scanning.{each_front}
 use Rattle.vx_text.specs.Past.{first_past, NonePast}
-use Rattle.vx_text.proofs.PastLaws.{first_none, no_digit, none_after, none_number, none_others, none_past, none_run}
-use Rattle.deb_scheme.specs.Version.{Fields, IsWithin, LetterIsWithin, is_other, letters_of, first_letters, behind_pair}
-use Rattle.vx_text.specs.EpochParts.{Parts, hyphen, is_optional, whole}
+use Rattle.vx_text.proofs.PastLaws.{no_digit, none_after, none_number, none_others, none_run}
+use Rattle.vx_order.specs.Letters.{LetterIsWithin}
+use Rattle.deb_scheme.specs.Version.{Fields, IsWithin, is_other, letters_of, first_letters, behind_pair}
+use Rattle.vx_spec.specs.Signs.{hyphen}
+use Rattle.vx_text.specs.EpochParts.{Parts, is_optional, whole}
 use Rattle.vx_text.proofs.EpochLaws.{none_whole, whole_within}
+use Rattle.vx_text.proofs.EpochVersionLaws as by_parts
 use Rattle.deb_scheme.specs.Spelling.{AreVersionParts, Spells, is_revision, is_revision_byte, is_upstream, is_upstream_byte, revision_text, version_of}
 use Rattle.deb_scheme.specs.Laws.Unique.{made_of}
 use Rattle.deb_scheme.specs.Laws.Pairs.{behind_less}
@@ -59,9 +62,6 @@ parts_within text p form none =
     let rest = whole_within p form.epoch none in
     (rest.0, upstream_within p.main form.main rest.1, revision_within p.last form.last rest.2)
 
-pub version_within : (text : List ℕ) (v : Fields) → Spells text v → NonePast text → IsWithin v
-version_within text v s none = subst IsWithin (sym s.values) (parts_within text s.parts s.form (subst NonePast s.joined none))
-
 -- ---- and the other way round
 
 other_no_digit : (b : ℕ) → is_other b ≡ true → is_ascii_digit b ≡ false
@@ -94,9 +94,6 @@ none_marked (Some part) all = (no_digit hyphen part refl, none_part part all)
 parts_none : (text : List ℕ) (p : Parts) → AreVersionParts p → IsWithin (version_of text p) → NonePast (whole p)
 parts_none text p form fits = none_whole p form.epoch fits.0 (none_part p.main fits.1) (none_marked p.last fits.2)
 
-pub version_none : (text : List ℕ) (v : Fields) → Spells text v → IsWithin v → NonePast text
-version_none text v s fits = subst NonePast (sym s.joined) (parts_none text s.parts s.form (subst IsWithin s.values fits))
-
 -- a version is within the limit exactly where none of its numerals is past it
 pub limits_agree : (text : List ℕ) (v : Fields) (at : ℕ) → Spells text v → IsWithin v ↔ (first_past at text ≡ None)
-limits_agree text v at s = (λ fits. first_none at text (version_none text v s fits), λ none. version_within text v s (none_past at text none))
+limits_agree = by_parts.limits_agree is_upstream is_revision version_of IsWithin parts_within parts_none

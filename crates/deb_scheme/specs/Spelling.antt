@@ -1,18 +1,11 @@
 -- The text of a version after Debian Policy, 5.6.12: the text is its parts, joined by their signs: an epoch, the upstream part,
 -- which is the main one, and the revision, which is the last; each part has its form; and the version has their values.
-use Rattle.std.specs.Prelude.{◌≡◌, ℕ, ◌&&◌, ◌||◌, ◌==◌, nat_lt, Bool, List, length, Option, Some, None, codes}
+use Rattle.std.specs.Prelude.{ℕ, ◌||◌, ◌==◌, Bool, List, Option, Some, None, codes}
 use Rattle.std.specs.Char.{is_ascii_alphanumeric}
-use Rattle.std.specs.List.{list_all}
-use Rattle.vx_text.specs.EpochParts.{HaveForms, Parts, epoch_value, hyphen, whole}
-use Rattle.deb_scheme.specs.Version.{Fields, letters_of, tilde}
-
--- the byte '.'
-abbrev pub dot : ℕ
-dot = 46
-
--- the byte '+'
-abbrev pub plus : ℕ
-plus = 43
+use Rattle.vx_spec.specs.Runs.{is_made_of}
+use Rattle.vx_spec.specs.Signs.{dot, hyphen, plus, tilde}
+use Rattle.vx_text.specs.EpochParts.{HaveForms, Parts, SpellsByParts, epoch_value}
+use Rattle.deb_scheme.specs.Version.{Fields, letters_of}
 
 -- a letter, a digit, '.', '+' or '~'
 abbrev pub is_revision_byte : ℕ → Bool
@@ -22,11 +15,7 @@ is_revision_byte b = is_ascii_alphanumeric b || b == dot || b == plus || b == ti
 abbrev pub is_upstream_byte : ℕ → Bool
 is_upstream_byte b = is_revision_byte b || b == hyphen
 
--- one such byte or more
-abbrev pub is_made_of : (ℕ → Bool) → List ℕ → Bool
-is_made_of test part = nat_lt 0 (length part) && list_all test part
-
--- an upstream part and a revision are made of their bytes
+-- an upstream part and a revision are made of their bytes, one or more
 abbrev pub is_upstream : List ℕ → Bool
 is_upstream part = is_made_of is_upstream_byte part
 
@@ -47,11 +36,8 @@ abbrev pub version_of : List ℕ → Parts → Fields
 version_of text p = record { text = text; epoch = epoch_value p.epoch; upstream = letters_of p.main; revision = letters_of (revision_text p.last) }
 
 -- The text spells the version, with numerals of any length.
-pub record Spells (text : List ℕ) (v : Fields) : Type 0 where
-  pub parts : Parts
-  pub joined : text ≡ whole parts
-  pub form : AreVersionParts parts
-  pub values : v ≡ version_of text parts
+abbrev pub Spells : List ℕ → Fields → Type 0
+Spells = SpellsByParts is_upstream is_revision version_of
 
 -- The fields are a version's: its text spells it.
 abbrev pub IsVersion : Fields → Type 0

@@ -5,8 +5,9 @@ use Rattle.std.specs.Char.{is_ascii_alphabetic, is_ascii_digit}
 use Rattle.std.specs.List.{AllByRecursion}
 use Rattle.vx_spec.specs.Numerals.{value}
 use Rattle.vx_spec.specs.Runs.{run, past}
+use Rattle.vx_spec.specs.Signs.{tilde}
 use Rattle.vx_order.specs.declared.letter.Letter.{Letter}
-use Rattle.vx_order.specs.Letters.{end_letter}
+use Rattle.vx_order.specs.Letters.{LetterIsWithin, end_letter}
 use Rattle.vx_order.specs.Scanning.{scanned}
 
 -- the fields: the text as it is written, the epoch, and the letters of the upstream part and of the revision
@@ -32,10 +33,6 @@ first_pair part = record { others = run is_other part; digits = run is_ascii_dig
 -- what stands behind that pair
 abbrev pub behind_pair : List ℕ → List ℕ
 behind_pair part = past is_ascii_digit (past is_other part)
-
--- the byte '~'
-abbrev pub tilde : ℕ
-tilde = 126
 
 -- The ranks of letters, from the lowest: '~', the end of a run, ASCII letters, any other byte that is no digit. The end
 -- of a run has the rank that ends a list too.
@@ -77,10 +74,6 @@ first_letters part = pair_letters (first_pair part)
 -- the letters of a part, pair by pair, each of which has a byte at least
 abbrev pub letters_of : List ℕ → List Letter
 letters_of part = scanned first_letters behind_pair part
-
--- a letter's number is within the limit of 128 bits
-abbrev pub LetterIsWithin : Letter → Type 0
-LetterIsWithin letter = letter.number < 2 ^ 128
 
 -- the epoch and each run of digits are within the limit of 128 bits (and so is each byte)
 abbrev pub IsWithin : Fields → Type 0

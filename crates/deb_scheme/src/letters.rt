@@ -1,7 +1,8 @@
 ghost use Rattle.std.specs.Prelude.{◌≡◌, ◌++◌, ◌∷◌, [], IfErr, IfOk, OnOk, map};
 ghost use Rattle.std.specs.List.{AllByRecursion};
 ghost use Rattle.vx_scheme.specs.Values.{Faults, Gives};
-ghost use Rattle.deb_scheme.specs.Version.{LetterIsWithin, byte_rank, byte_letter, behind_pair, first_letters, letters_of};
+ghost use Rattle.vx_order.specs.Letters.{LetterIsWithin};
+ghost use Rattle.deb_scheme.specs.Version.{byte_rank, byte_letter, behind_pair, first_letters, letters_of};
 
 use std::alloc::Global;
 use vx_order::{Letter, Letters, Scan, scan_text};
@@ -37,7 +38,8 @@ struct PairLetters;
 
 impl Scan for PairLetters {
     ghost use Rattle.deb_scheme.specs.Laws.Pairs.{behind_less};
-    ghost use Rattle.deb_scheme.specs.Version.{LetterIsWithin, behind_pair, first_letters};
+    ghost use Rattle.vx_order.specs.Letters.{LetterIsWithin};
+    ghost use Rattle.deb_scheme.specs.Version.{behind_pair, first_letters};
 
     type Entry = Letter;
 

@@ -12,7 +12,8 @@ mod version;
 mod writing;
 
 pub use order::order_by_first_difference;
-pub use past::{limits_agree, past_numeral};
+pub use past::limits_agree;
 pub use scheme::Deb;
 pub use spelling::is_version;
 pub use version::DebVersion;
+pub use vx_text::first_past as past_numeral;

@@ -1,113 +1,104 @@
-ghost use Rattle.std.specs.Prelude.{◌↔◌, ◌≡◌, IfErr, IfOk, IsTrue};
+ghost use Rattle.std.specs.Prelude.{◌↔◌, IfErr, IfOk, IsTrue};
 ghost use Rattle.std.specs.Option.{option_copied};
-ghost use Rattle.std.specs.List.{AllByRecursion, list_all};
+ghost use Rattle.std.specs.List.{AllByRecursion};
 ghost use Rattle.vx_scheme.specs.Scheme.{Refuses};
 ghost use Rattle.vx_scheme.specs.Values.{Gives};
-ghost use Rattle.vx_text.specs.EpochParts.{IsMadeOf, parts};
-ghost use Rattle.deb_scheme.specs.Version.{IsWithin, LetterIsWithin, letters_of};
-ghost use Rattle.deb_scheme.specs.Spelling.{IsVersionText, Spells, is_revision, is_revision_byte, is_upstream, is_upstream_byte, revision_text, version_of};
+ghost use Rattle.vx_order.specs.Letters.{LetterIsWithin};
+ghost use Rattle.deb_scheme.specs.Version.{IsWithin, letters_of};
+ghost use Rattle.deb_scheme.specs.Spelling.{IsVersionText, Spells, revision_text};
 
 use crate::letters::letters;
 use crate::version::DebVersion;
 use std::alloc::Global;
 use vx_order::Letters;
 use vx_scheme::{Text, VersionFault};
-use vx_text::{EpochParts, PartForms, epoch_number, epoch_parts, has_epoch_parts};
+use vx_text::{
+    ByteClass, EpochParts, EpochVersions, epoch_number, epoch_version, is_epoch_version, is_made_of,
+};
 
-// The forms of the upstream part, which is the main one, and of the revision, which is the last.
-struct Forms;
+// The bytes of an upstream part.
+struct UpstreamBytes;
 
-impl PartForms for Forms {
-    ghost use Rattle.deb_scheme.specs.Spelling.{is_revision, is_upstream};
+impl ByteClass for UpstreamBytes {
+    ghost use Rattle.deb_scheme.specs.Spelling.{is_upstream_byte};
+
+    ghost holds = { is_upstream_byte };
+
+    fn is_one(byte: u8) -> bool {
+        RevisionBytes::is_one(byte) || byte == b'-'
+    }
+}
+
+// The bytes of a revision.
+struct RevisionBytes;
+
+impl ByteClass for RevisionBytes {
+    ghost use Rattle.deb_scheme.specs.Spelling.{is_revision_byte};
+
+    ghost holds = { is_revision_byte };
+
+    fn is_one(byte: u8) -> bool {
+        byte.is_ascii_alphanumeric() || byte == b'.' || byte == b'+' || byte == b'~'
+    }
+}
+
+// Versions by their parts: the upstream part is the main one, and the revision the last.
+struct ByParts;
+
+impl EpochVersions for ByParts {
+    ghost use Rattle.deb_scheme.specs.Version.{IsWithin};
+    ghost use Rattle.deb_scheme.specs.Spelling.{is_revision, is_upstream, version_of};
     ghost use Rattle.deb_scheme.specs.Laws.Unique.{revision_lacks, upstream_lacks};
+
+    type Version = DebVersion;
 
     ghost main_form = { is_upstream };
 
     ghost last_form = { is_revision };
+
+    ghost version_of = { version_of };
+
+    ghost IsWithin = { IsWithin };
 
     ghost main_lacks = { upstream_lacks };
 
     ghost last_lacks = { revision_lacks };
 
     fn is_main(part: &[u8]) -> bool {
-        is_upstream(part)
+        is_made_of::<UpstreamBytes>(part)
     }
 
     fn is_last(part: &[u8]) -> bool {
-        is_revision(part)
+        is_made_of::<RevisionBytes>(part)
+    }
+
+    fn of_parts(alloc: Global, text: &str, found: &EpochParts) -> Result<DebVersion, VersionFault> {
+        let epoch = epoch_number(found.epoch)?;
+        let upstream = letters(alloc, found.main)?;
+        let revision = revision_letters(alloc, found.last)?;
+        let text = Text::copy_of(alloc, text)?;
+        Ok(DebVersion {
+            text,
+            epoch,
+            upstream,
+            revision,
+        })
     }
 }
 
-/// The version that the text spells. The forms of the parts are tested before a value is made, so that `NotAVersion`
-/// comes before `Numeral`.
+/// The version that the text spells.
 pub(crate) fn read(alloc: Global, text: &str) -> Result<DebVersion, VersionFault>
     ensures ok { IfOk result (λ v. Spells text.now v × IsWithin v) }
     ensures err { IfErr result (Refuses Spells IsWithin text.now) }
 {
-    let Some(found) = epoch_parts::<Forms>(text) else {
-        return Err(VersionFault::NotAVersion);
-    };
-    version_of_parts(alloc, text, &found)
+    epoch_version::<ByParts>(alloc, text)
 }
 
 /// Whether the text spells a version, with numerals of any length. It takes no memory.
 pub fn is_version(text: &str) -> bool
     ensures { IsTrue result ↔ IsVersionText text.now }
 {
-    has_epoch_parts::<Forms>(text)
-}
-
-fn is_upstream(part: &[u8]) -> bool
-    ensures { result ≡ is_upstream part.now }
-{
-    !part.is_empty() && all_upstream(part)
-}
-
-fn all_upstream(part: &[u8]) -> bool
-    ensures { result ≡ list_all is_upstream_byte part.now }
-{
-    part.iter()
-        .all(|byte| is_revision_byte(*byte) || *byte == b'-')
-}
-
-fn is_revision(part: &[u8]) -> bool
-    ensures { result ≡ is_revision part.now }
-{
-    !part.is_empty() && all_revision(part)
-}
-
-fn all_revision(part: &[u8]) -> bool
-    ensures { result ≡ list_all is_revision_byte part.now }
-{
-    part.iter().all(|byte| is_revision_byte(*byte))
-}
-
-fn is_revision_byte(byte: u8) -> bool
-    ensures { result ≡ is_revision_byte byte }
-{
-    byte.is_ascii_alphanumeric() || byte == b'.' || byte == b'+' || byte == b'~'
-}
-
-/// The version that the parts stand for. `Numeral` comes exactly where one of their numerals passes 2^128-1, unless
-/// memory ends before.
-fn version_of_parts(
-    alloc: Global,
-    text: &str,
-    found: &EpochParts,
-) -> Result<DebVersion, VersionFault>
-    requires { IsMadeOf is_upstream is_revision text.now (parts found.now) }
-    ensures { Gives IsWithin result (version_of text.now (parts found.now)) }
-{
-    let epoch = epoch_number(found.epoch)?;
-    let upstream = letters(alloc, found.main)?;
-    let revision = revision_letters(alloc, found.last)?;
-    let text = Text::copy_of(alloc, text)?;
-    Ok(DebVersion {
-        text,
-        epoch,
-        upstream,
-        revision,
-    })
+    is_epoch_version::<ByParts>(text)
 }
 
 fn revision_letters(alloc: Global, part: Option<&[u8]>) -> Result<Letters, VersionFault>

@@ -1,17 +1,15 @@
 -- The bytes of a version's text.
-use Rattle.std.proofs.Common.{◌≡◌, ◌<◌, ℕ, nat_lt, length, List, [], ◌∷◌, ◌++◌, true, sym, subst, arith}
-use Rattle.std.specs.List.{AllByRecursion, list_all}
+use Rattle.std.proofs.Common.{◌≡◌, ◌<◌, ℕ, List, ◌++◌, true, sym, subst, arith}
+use Rattle.std.specs.List.{AllByRecursion}
 use Rattle.std.specs.Char.{is_ascii_alphanumeric, is_ascii_digit}
 use Rattle.std.specs.Str.{IsUtf8}
-use Rattle.std.proofs.lemmas.Bool.{and_parts}
 use Rattle.std.proofs.lemmas.Bool.Decides.{nat_tests}
-use Rattle.vx_spec.proofs.TextLaws.{each_append, each_by_test, each_joined, each_part, utf8_by_each}
+use Rattle.vx_spec.proofs.TextLaws.{each_append, each_part, utf8_by_each}
+use Rattle.vx_spec.specs.Signs.{dot, hyphen}
+use Rattle.vx_order.specs.Dotted.{tail}
+use Rattle.vx_order.specs.Laws.Identifiers.{IsAsciiByte, identifiers_ascii, made_ascii, tail_ascii}
 use Rattle.gem_scheme.specs.Version.{Fields}
-use Rattle.gem_scheme.specs.Spelling.{Spells, dot, hyphen, is_label, is_label_byte, is_piece, tail}
-
--- an ASCII byte
-abbrev pub IsAsciiByte : ℕ → Type 0
-IsAsciiByte b = b < 128
+use Rattle.gem_scheme.specs.Spelling.{Spells, is_piece}
 
 digit_ascii : (b : ℕ) → is_ascii_digit b ≡ true → b < 128
 digit_ascii b is = grind (arith, nat_tests)
@@ -19,26 +17,13 @@ digit_ascii b is = grind (arith, nat_tests)
 piece_byte_ascii : (b : ℕ) → is_ascii_alphanumeric b ≡ true → b < 128
 piece_byte_ascii b is = grind (arith, nat_tests)
 
-label_byte_ascii : (b : ℕ) → is_label_byte b ≡ true → b < 128
-label_byte_ascii b is = grind (arith, nat_tests)
-
-piece_ascii : (text : List ℕ) → is_piece text ≡ true → AllByRecursion IsAsciiByte text
-piece_ascii text is = each_by_test IsAsciiByte is_ascii_alphanumeric text piece_byte_ascii (and_parts (nat_lt 0 (length text)) (list_all is_ascii_alphanumeric text) is).1
-
-label_ascii : (text : List ℕ) → is_label text ≡ true → AllByRecursion IsAsciiByte text
-label_ascii text is = each_by_test IsAsciiByte is_label_byte text label_byte_ascii (and_parts (nat_lt 0 (length text)) (list_all is_label_byte text) is).1
-
-tail_ascii : (mark : ℕ) → mark < 128 → (xs : List (List ℕ)) → AllByRecursion (AllByRecursion IsAsciiByte) xs → AllByRecursion IsAsciiByte (tail mark xs)
-tail_ascii mark small [] all = tt
-tail_ascii mark small (x ∷ xs) all = (small, each_joined IsAsciiByte dot (omega arith) (x ∷ xs) all)
-
 -- each byte of a version's text is ASCII
 pub spelled_ascii : (text : List ℕ) (v : Fields) → Spells text v → AllByRecursion IsAsciiByte text
 spelled_ascii text v s =
     let p = s.parts in
-    let number = each_by_test IsAsciiByte is_ascii_digit p.number digit_ascii (and_parts (nat_lt 0 (length p.number)) (list_all is_ascii_digit p.number) s.form.number).1 in
-    let pieces = tail_ascii dot (omega arith) p.pieces (each_part IsAsciiByte is_piece p.pieces piece_ascii s.form.pieces) in
-    let labels = tail_ascii hyphen (omega arith) p.labels (each_part IsAsciiByte is_label p.labels label_ascii s.form.labels) in
+    let number = made_ascii is_ascii_digit digit_ascii p.number s.form.number in
+    let pieces = tail_ascii dot (omega arith) p.pieces (each_part IsAsciiByte is_piece p.pieces (made_ascii is_ascii_alphanumeric piece_byte_ascii) s.form.pieces) in
+    let labels = identifiers_ascii hyphen (omega arith) p.labels s.form.labels in
     subst (AllByRecursion IsAsciiByte) (sym s.joined) (each_append IsAsciiByte (p.number ++ tail dot p.pieces) (tail hyphen p.labels) (each_append IsAsciiByte p.number (tail dot p.pieces) number pieces) labels)
 
 -- so it is UTF-8

@@ -1,10 +1,12 @@
 -- A version after RubyGems' `Gem::Version`: its segments, with numbers of any size and words as their bytes; when they are a
 -- version's; its release and its bump; and the limit of numerals.
-use Rattle.std.specs.Prelude.{◌≡◌, ℕ, ◌+◌, ◌<◌, ◌^◌, ◌&&◌, nat_lt, Bool, true, false, List, [], ◌∷◌, length, take, drop}
+use Rattle.std.specs.Prelude.{◌≡◌, ℕ, ◌+◌, Bool, true, false, List, [], ◌∷◌, take, drop}
 use Rattle.std.specs.Char.{is_ascii_alphabetic}
 use Rattle.std.specs.List.{AllByRecursion, list_all, prefix_len}
+use Rattle.vx_spec.specs.Runs.{is_made_of}
 use Rattle.vx_scheme.specs.declared.ident.Ident.{Ident}
 use Rattle.vx_scheme.specs.declared.ident.Ident.TheVariants.{Number, Word}
+use Rattle.vx_order.specs.Identifiers.{IdentIsWithin}
 
 -- the fields: the segments, each a number or a word
 pub record Fields : Type 0 where
@@ -17,7 +19,7 @@ is_number (Word w) = false
 -- a number is any number, and a word is one letter or more
 abbrev pub is_segment : Ident → Bool
 is_segment (Number n) = true
-is_segment (Word w) = nat_lt 0 (length w) && list_all is_ascii_alphabetic w
+is_segment (Word w) = is_made_of is_ascii_alphabetic w
 
 -- the first segment is a number
 abbrev pub begins_with_number : List Ident → Bool
@@ -31,8 +33,7 @@ pub record IsVersion (v : Fields) : Type 0 where
 
 -- a segment's number is within the limit of 128 bits
 abbrev pub SegmentIsWithin : Ident → Type 0
-SegmentIsWithin (Number n) = n < 2 ^ 128
-SegmentIsWithin (Word w) = Unit {0}
+SegmentIsWithin segment = IdentIsWithin segment
 
 -- each number of the version is within the limit of 128 bits
 abbrev pub IsWithin : Fields → Type 0

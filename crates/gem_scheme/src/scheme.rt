@@ -1,9 +1,10 @@
 use crate::order::{compare_versions, has_no_word};
+use crate::spelling;
 use crate::version::{GemVersion, copy};
-use crate::{spelling, writing};
 use std::alloc::Global;
 use std::cmp::Ordering;
 use vx_scheme::{NoMemory, Scheme, SchemeName, Text, VersionFault};
+use vx_text::push_whole;
 
 /// The scheme of RubyGems.
 #[derive(Debug, Clone, Copy)]
@@ -51,7 +52,7 @@ impl Scheme for Gem {
     /// Appends the normal text: the segments joined by `.`.
     fn write(version: &GemVersion, out: &mut Text) -> Result<(), NoMemory> {
         let _segments = version.segments.len();
-        writing::write(version, out)
+        push_whole(version, out)
     }
 
     /// How two versions compare: by the first place at which their keys differ.

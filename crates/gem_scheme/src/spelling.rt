@@ -1,19 +1,17 @@
-ghost use Rattle.std.specs.Prelude.{◌==◌, ◌↔◌, ◌≡◌, IfErr, IfOk, IsTrue};
-ghost use Rattle.gem_scheme.specs.Spelling.{AreVersionParts, IsVersionText, Spells, dot, is_label, is_label_byte, is_piece, version_of};
+ghost use Rattle.std.specs.Prelude.{◌↔◌, IfErr, IfOk, IsTrue};
+ghost use Rattle.gem_scheme.specs.Spelling.{AreVersionParts, IsVersionText, Spells, version_of};
 ghost use Rattle.gem_scheme.specs.Version.{IsWithin};
 ghost use Rattle.vx_scheme.specs.Scheme.{Refuses};
 ghost use Rattle.gem_scheme.specs.Steps.Apart.{IsApart};
-ghost use Rattle.gem_scheme.specs.Steps.Written.{parts, split};
-ghost use Rattle.std.specs.List.{list_all, slice_split};
-ghost use Rattle.std.specs.Option.{option_copied};
-ghost use Rattle.std.specs.Char.{is_ascii_alphanumeric};
+ghost use Rattle.gem_scheme.specs.Steps.Written.{parts};
 ghost use Rattle.vx_scheme.specs.Values.{Gives};
 
 use crate::segments::segments;
 use crate::version::GemVersion;
 use std::alloc::Global;
+use vx_order::{Identifiers, MadeOf, all_parts};
 use vx_scheme::VersionFault;
-use vx_text::{cut, is_numeral};
+use vx_text::{Alphanumeric, cut, is_numeral};
 
 /// The parts of a version's text, as they are written.
 #[derive(Clone, Copy)]
@@ -60,62 +58,9 @@ fn cut_apart(text: &str) -> Written<'_>
 fn has_form(written: &Written) -> bool
     ensures { IsTrue result ↔ AreVersionParts (parts written.now) }
 {
-    is_numeral(written.number) && are_pieces(written.pieces) && are_labels(written.labels)
-}
-
-fn are_pieces(text: Option<&str>) -> bool
-    ensures { result ≡ list_all is_piece (split (option_copied text.entry)) }
-{
-    match text {
-        Some(text) => all_pieces(text.as_bytes()),
-        None => true,
-    }
-}
-
-fn all_pieces(text: &[u8]) -> bool
-    ensures { result ≡ list_all is_piece (slice_split (λ b. b == dot) text.now) }
-{
-    text.split(|byte| *byte == b'.').all(|part| is_piece(part))
-}
-
-fn is_piece(text: &[u8]) -> bool
-    ensures { result ≡ is_piece text.now }
-{
-    !text.is_empty() && has_piece_bytes(text)
-}
-
-fn has_piece_bytes(text: &[u8]) -> bool
-    ensures { result ≡ list_all is_ascii_alphanumeric text.now }
-{
-    text.iter().all(|byte| byte.is_ascii_alphanumeric())
-}
-
-fn are_labels(text: Option<&str>) -> bool
-    ensures { result ≡ list_all is_label (split (option_copied text.entry)) }
-{
-    match text {
-        Some(text) => all_labels(text.as_bytes()),
-        None => true,
-    }
-}
-
-fn all_labels(text: &[u8]) -> bool
-    ensures { result ≡ list_all is_label (slice_split (λ b. b == dot) text.now) }
-{
-    text.split(|byte| *byte == b'.').all(|part| is_label(part))
-}
-
-fn is_label(text: &[u8]) -> bool
-    ensures { result ≡ is_label text.now }
-{
-    !text.is_empty() && has_label_bytes(text)
-}
-
-fn has_label_bytes(text: &[u8]) -> bool
-    ensures { result ≡ list_all is_label_byte text.now }
-{
-    text.iter()
-        .all(|byte| byte.is_ascii_alphanumeric() || *byte == b'-')
+    is_numeral(written.number.as_bytes())
+        && all_parts::<MadeOf<Alphanumeric>>(written.pieces)
+        && all_parts::<Identifiers>(written.labels)
 }
 
 /// The version of a text that spells one. `Numeral` comes exactly where one of its numerals passes 2^128-1, unless memory

@@ -6,7 +6,8 @@ use Rattle.std.proofs.lemmas.Bool.{cases_Bool, and_parts, and_from}
 use Rattle.std.proofs.lemmas.Bool.Decides.{nat_tests}
 use Rattle.vx_spec.proofs.EachLaws.{each_append, each_behind}
 use Rattle.vx_order.specs.declared.letter.Letter.{Letter}
-use Rattle.maven_scheme.specs.Version.{LetterIsWithin, is_dotted, is_null}
+use Rattle.vx_order.specs.Letters.{LetterIsWithin}
+use Rattle.maven_scheme.specs.Version.{is_dotted, is_null}
 use Rattle.maven_scheme.specs.Letters.{without_nulls, drops_null}
 use Rattle.maven_scheme.specs.Steps.Nulls.{ends_null, goes_on, is_tidy, null_before, null_there, with_letter, without_null_end}
 

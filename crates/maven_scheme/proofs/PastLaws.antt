@@ -11,7 +11,8 @@ use Rattle.vx_order.specs.declared.letter.Letter.{Letter}
 use Rattle.vx_text.specs.Folding.{lowered}
 use Rattle.vx_text.specs.Past.{is_past, first_past, NonePast}
 use Rattle.vx_text.proofs.PastLaws.{none_past, none_after, none_run, run_front}
-use Rattle.maven_scheme.specs.Version.{Fields, IsWithin, LetterIsWithin, plain_letter, alpha_rank, beta_rank, milestone_rank, candidate_rank, snapshot_rank, empty_rank, service_pack_rank, other_rank}
+use Rattle.vx_order.specs.Letters.{LetterIsWithin}
+use Rattle.maven_scheme.specs.Version.{Fields, IsWithin, plain_letter, alpha_rank, beta_rank, milestone_rank, candidate_rank, snapshot_rank, empty_rank, service_pack_rank, other_rank}
 use Rattle.maven_scheme.specs.Tokens.{is_dot, is_word_byte, is_separator, behind_front, front_token, past_separator, next_token, behind_next, tokens_in, tokens_of}
 use Rattle.maven_scheme.specs.Letters.{letter_of, letters_of, full_name, qualifier_letter}
 use Rattle.maven_scheme.specs.Spelling.{Spells}

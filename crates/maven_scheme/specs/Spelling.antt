@@ -1,10 +1,10 @@
 -- The text of a version after the POM reference, "Version Order Specification": one or more letters, digits, '.', '-', '_'
 -- and '+'.
-use Rattle.std.specs.Prelude.{◌≡◌, ℕ, ◌&&◌, ◌||◌, ◌==◌, nat_lt, Bool, true, List, length}
+use Rattle.std.specs.Prelude.{◌≡◌, ℕ, ◌||◌, ◌==◌, Bool, true, List}
 use Rattle.std.specs.Char.{is_ascii_alphanumeric}
-use Rattle.std.specs.List.{list_all}
+use Rattle.vx_spec.specs.Runs.{is_made_of}
 use Rattle.maven_scheme.specs.Version.{Fields}
-use Rattle.maven_scheme.specs.Tokens.{dot, hyphen, plus, underscore}
+use Rattle.vx_spec.specs.Signs.{dot, hyphen, plus, underscore}
 use Rattle.maven_scheme.specs.Letters.{letters_of}
 
 -- a letter, a digit, '.', '-', '_' or '+'
@@ -13,7 +13,7 @@ is_version_byte b = is_ascii_alphanumeric b || b == dot || b == hyphen || b == u
 
 -- one such byte or more
 abbrev pub is_version_text : List ℕ → Bool
-is_version_text text = nat_lt 0 (length text) && list_all is_version_byte text
+is_version_text text = is_made_of is_version_byte text
 
 -- the version of a text
 abbrev pub version_of : List ℕ → Fields

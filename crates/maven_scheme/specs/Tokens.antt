@@ -3,6 +3,7 @@
 use Rattle.std.specs.Prelude.{ℕ, zero, suc, ◌==◌, ◌||◌, not, Bool, true, if◌then◌else◌, List, [], ◌∷◌, length}
 use Rattle.std.specs.Char.{is_ascii_alphabetic, is_ascii_digit}
 use Rattle.vx_spec.specs.Runs.{begins, run, past}
+use Rattle.vx_spec.specs.Signs.{dot, plus, underscore}
 
 -- a token: whether its separator is '.', and not '-'; its bytes, none where it is empty; and whether a digit follows them
 -- directly
@@ -11,24 +12,8 @@ pub record Token : Type 0 where
   pub text : List ℕ
   pub before_digit : Bool
 
--- the byte '.'
-abbrev pub dot : ℕ
-dot = 46
-
 abbrev pub is_dot : ℕ → Bool
 is_dot b = b == dot
-
--- the byte '-'
-abbrev pub hyphen : ℕ
-hyphen = 45
-
--- the byte '_'
-abbrev pub underscore : ℕ
-underscore = 95
-
--- the byte '+'
-abbrev pub plus : ℕ
-plus = 43
 
 -- a byte of a word: a letter, '_' or '+'
 abbrev pub is_word_byte : ℕ → Bool

@@ -2,6 +2,7 @@
 -- bytes; the ranks of the letters that it compares by; and the limit of numerals.
 use Rattle.std.specs.Prelude.{ℕ, ◌==◌, ◌<◌, ◌^◌, ◌||◌, ◌&&◌, Bool, List, []}
 use Rattle.std.specs.List.{AllByRecursion}
+use Rattle.vx_order.specs.Letters.{LetterIsWithin}
 use Rattle.vx_order.specs.declared.letter.Letter.{Letter}
 
 -- the fields: the text as it is written, and its letters
@@ -59,10 +60,6 @@ is_number letter = letter.rank == hyphened_rank || is_dotted letter
 -- "null" values: the number 0 and the empty qualifier
 abbrev pub is_null : Letter → Bool
 is_null letter = (letter.rank == empty_rank || is_number letter) && letter.number == 0
-
--- a letter's number is within the limit of 128 bits
-abbrev pub LetterIsWithin : Letter → Type 0
-LetterIsWithin letter = letter.number < 2 ^ 128
 
 -- each run of digits is within the limit of 128 bits
 abbrev pub IsWithin : Fields → Type 0

@@ -1,7 +1,8 @@
 ghost use Rattle.std.specs.Prelude.{◌≡◌, ◌≢◌, [], IfErr, IfOk, OnOk};
 ghost use Rattle.std.specs.List.{AllByRecursion};
 ghost use Rattle.vx_scheme.specs.Values.{Faults, Gives};
-ghost use Rattle.maven_scheme.specs.Version.{LetterIsWithin, is_dotted, is_null};
+ghost use Rattle.vx_order.specs.Letters.{LetterIsWithin};
+ghost use Rattle.maven_scheme.specs.Version.{is_dotted, is_null};
 ghost use Rattle.maven_scheme.specs.Tokens.{behind_front, behind_next, front_token, next_token};
 ghost use Rattle.maven_scheme.specs.Letters.{letter_of, letters_of};
 ghost use Rattle.maven_scheme.specs.Steps.Tokens.{IsToken, token_letter};

@@ -1,14 +1,27 @@
 ghost use Rattle.std.specs.Prelude.{◌≡◌, ◌↔◌, IfErr, IfOk, IsTrue};
-ghost use Rattle.std.specs.List.{list_all};
 ghost use Rattle.vx_scheme.specs.Scheme.{Refuses};
 ghost use Rattle.vx_scheme.specs.Values.{Gives};
 ghost use Rattle.maven_scheme.specs.Version.{IsWithin};
-ghost use Rattle.maven_scheme.specs.Spelling.{IsVersionText, Spells, is_version_byte, is_version_text, version_of};
+ghost use Rattle.maven_scheme.specs.Spelling.{IsVersionText, Spells, is_version_text, version_of};
 
 use crate::letters::letters;
 use crate::version::MavenVersion;
 use std::alloc::Global;
 use vx_scheme::{Text, VersionFault};
+use vx_text::{ByteClass, is_made_of};
+
+// The bytes of a version's text.
+struct VersionBytes;
+
+impl ByteClass for VersionBytes {
+    ghost use Rattle.maven_scheme.specs.Spelling.{is_version_byte};
+
+    ghost holds = { is_version_byte };
+
+    fn is_one(byte: u8) -> bool {
+        byte.is_ascii_alphanumeric() || byte == b'.' || byte == b'-' || byte == b'_' || byte == b'+'
+    }
+}
 
 /// The version that the text spells. Its form is tested before a value is made, so that `NotAVersion` comes before
 /// `Numeral`.
@@ -33,19 +46,7 @@ pub fn is_version(text: &str) -> bool
 fn has_form(text: &str) -> bool
     ensures { result ≡ is_version_text text.now }
 {
-    !text.is_empty() && has_version_bytes(text.as_bytes())
-}
-
-fn has_version_bytes(text: &[u8]) -> bool
-    ensures { result ≡ list_all is_version_byte text.now }
-{
-    text.iter().all(|byte| is_version_byte(*byte))
-}
-
-fn is_version_byte(byte: u8) -> bool
-    ensures { result ≡ is_version_byte byte }
-{
-    byte.is_ascii_alphanumeric() || byte == b'.' || byte == b'-' || byte == b'_' || byte == b'+'
+    is_made_of::<VersionBytes>(text.as_bytes())
 }
 
 /// The version of a text that spells one. `Numeral` comes exactly where one of its numerals passes 2^128-1, unless memory

@@ -1,11 +1,12 @@
 -- What is read is within the limit exactly where no numeral that counts is past it.
 use Rattle.std.proofs.Common.{◌≡◌, ◌↔◌, ◌<◌, ◌≤◌, ◌^◌, ◌+◌, not, ℕ, List, [], ◌∷◌, length, map, true, false, refl, sym, ap, ◌∙◌, subst, inl, inr, Option, Some, None, arith, ltb}
 use Rattle.std.specs.List.{AllByRecursion, list_all}
-use Rattle.std.proofs.lemmas.Bool.{cases_Bool, and_parts, ltb-true, lt-ltb}
+use Rattle.std.proofs.lemmas.Bool.{cases_Bool, and_parts, ltb-true}
 use Rattle.std.proofs.lemmas.List.{length-map}
 use Rattle.vx_spec.specs.Numerals.{is_numeral, value}
 use Rattle.vx_range.specs.Pieces.{Written}
 use Rattle.vx_order.specs.PastParts.{first_past_part, is_past_numeral}
+use Rattle.vx_order.proofs.PastPartLaws.{fine, not_past}
 use Rattle.npm_scheme.specs.Version.{without_build}
 use Rattle.npm_scheme.specs.Spelling.{has_leading_zero, version_of}
 use Rattle.npm_scheme.proofs.PastLaws.{none_within, within_none}
@@ -34,16 +35,6 @@ are_numerals (part ∷ parts) all = elim (cases_Bool (is_any part)) [
   | inr other ↦ let a = and_parts (is_number part) (list_all is_number parts) all in rw other (numeral_of part a.0 other, are_numerals parts a.1)
 ]
 
--- digits that are not past the limit are within it, and the other way round
-fine : (part : List ℕ) → is_numeral part ≡ true → is_past_numeral part ≡ false → value part < 2 ^ 128
-fine part is other = elim (cases_Bool (ltb (value part) (2 ^ 128))) [
-  | inl small ↦ ltb-true (value part) (2 ^ 128) small
-  | inr large ↦ absurd (cc (rw (is, large) at other))
-]
-
-not_past : (part : List ℕ) → is_numeral part ≡ true → value part < 2 ^ 128 → is_past_numeral part ≡ false
-not_past part is small = rw (is, lt-ltb (value part) (2 ^ 128) small) refl
-
 all_within : (at : ℕ) (parts : List (List ℕ)) → AreNumerals parts → first_past_part at parts ≡ None → AllByRecursion (λ n. n < 2 ^ 128) (map value parts)
 all_within at [] are none = tt
 all_within at (part ∷ parts) are none = elim (cases_Bool (is_past_numeral part)) [
@@ -53,7 +44,7 @@ all_within at (part ∷ parts) are none = elim (cases_Bool (is_past_numeral part
 
 none_past_of : (at : ℕ) (parts : List (List ℕ)) → AreNumerals parts → AllByRecursion (λ n. n < 2 ^ 128) (map value parts) → first_past_part at parts ≡ None
 none_past_of at [] are all = refl
-none_past_of at (part ∷ parts) are all = rw (not_past part are.0 all.0) (none_past_of (at + length part + 1) parts are.1 all.1)
+none_past_of at (part ∷ parts) are all = rw (not_past part all.0) (none_past_of (at + length part + 1) parts are.1 all.1)
 
 partial_within : (ns : List ℕ) → AllByRecursion (λ n. n < 2 ^ 128) ns → PartialIsWithin (partial_of ns)
 partial_within [] all = tt

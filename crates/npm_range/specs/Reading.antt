@@ -5,7 +5,7 @@ use Rattle.std.specs.List.{list_all, slice_split}
 use Rattle.vx_spec.specs.Numerals.{value}
 use Rattle.vx_spec.specs.Runs.{is_blank, run, past}
 use Rattle.vx_range.specs.Pieces.{Written}
-use Rattle.vx_order.specs.Dotted.{dot}
+use Rattle.vx_spec.specs.Signs.{dot}
 use Rattle.npm_scheme.specs.Version.{Fields, release_of, without_build}
 use Rattle.npm_scheme.specs.Spelling.{is_plain_numeral, Spells}
 use Rattle.npm_range.specs.declared.cutting.Kind.{Kind}

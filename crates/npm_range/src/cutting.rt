@@ -1,6 +1,6 @@
 ghost use Rattle.std.specs.Prelude.{◌≡◌, ◌≢◌, ◌<◌, ◌≤◌, ◌+◌, ◌^◌, [], ◌∷◌, false, length, map, take, drop, codes, IfOk, IfSome, IsTrue, MatchOption, ◌↔◌};
 ghost use Rattle.std.specs.List.{AllByRecursion};
-ghost use Rattle.vx_range.specs.Pieces.{seen, seen_all, IsInPlace};
+ghost use Rattle.vx_range.specs.Pieces.{as_written, all_as_written, IsInPlace};
 ghost use Rattle.npm_range.specs.Cutting.{piece_from, behind_piece, first_piece, ArePieces, IsHyphenRange, place, sides, IsMadeOf, has_bars, IsCutAtBars, IsCut};
 ghost use Rattle.npm_range.specs.Steps.Bars.{before_bars};
 
@@ -76,8 +76,8 @@ fn cut_at_bars(text: &[u8]) -> Option<(&[u8], &[u8])>
 fn first_piece(text: &[u8], at: usize) -> Option<(NpmPiece<'_>, &[u8])>
     requires { at + length text.now < 2 ^ 64 }
     ensures piece { MatchOption result (piece_from text.now ≡ [])
-        (λ r. (piece_from text.now ≢ []) × (seen r.0 ≡ first_piece at text.now) × (r.1.now ≡ behind_piece text.now)) }
-    ensures placed { IfSome result (λ r. IsInPlace (seen r.0)) }
+        (λ r. (piece_from text.now ≢ []) × (as_written r.0 ≡ first_piece at text.now) × (r.1.now ≡ behind_piece text.now)) }
+    ensures placed { IfSome result (λ r. IsInPlace (as_written r.0)) }
     ensures shorter { IfSome result (λ r. length r.1.now < length text.now) }
 {
     let from = past_run::<Blanks>(text);
@@ -98,8 +98,8 @@ fn first_piece(text: &[u8], at: usize) -> Option<(NpmPiece<'_>, &[u8])>
 /// The pieces of an alternative that is no hyphen range.
 fn pieces_of(alloc: Global, text: &[u8], at: usize) -> Result<Pieces<'_, Kind>, AllocError>
     requires { at + length text.now < 2 ^ 64 }
-    ensures pieces { IfOk result (λ v. ArePieces at text.now (seen_all v)) }
-    ensures placed { IfOk result (λ v. AllByRecursion IsInPlace (seen_all v)) }
+    ensures pieces { IfOk result (λ v. ArePieces at text.now (all_as_written v)) }
+    ensures placed { IfOk result (λ v. AllByRecursion IsInPlace (all_as_written v)) }
 {
     let mut pieces = Few::new(alloc);
     let mut from = at;
@@ -126,8 +126,8 @@ fn side<'a>(kind: Kind, text: &[u8], from: &[u8], run: &'a [u8], at: usize) -> N
     requires within { length run.now ≤ length from.now }
     requires rest { length from.now ≤ length text.now }
     requires place { at + length text.now < 2 ^ 64 }
-    ensures side { seen result ≡ record { kind = kind; at = place at text.now from.now; bytes = run.now } }
-    ensures placed { IsInPlace (seen result) }
+    ensures side { as_written result ≡ record { kind = kind; at = place at text.now from.now; bytes = run.now } }
+    ensures placed { IsInPlace (as_written result) }
 {
     Piece {
         kind,
@@ -140,8 +140,8 @@ fn side<'a>(kind: Kind, text: &[u8], from: &[u8], run: &'a [u8], at: usize) -> N
 fn hyphen_range(text: &[u8], at: usize) -> Option<(NpmPiece<'_>, NpmPiece<'_>)>
     requires { at + length text.now < 2 ^ 64 }
     ensures sides { MatchOption result (¬ (IsHyphenRange text.now))
-        (λ r. IsHyphenRange text.now × (seen r.0 ∷ seen r.1 ∷ [] ≡ sides at text.now)) }
-    ensures placed { IfSome result (λ r. IsInPlace (seen r.0) × IsInPlace (seen r.1)) }
+        (λ r. IsHyphenRange text.now × (as_written r.0 ∷ as_written r.1 ∷ [] ≡ sides at text.now)) }
+    ensures placed { IfSome result (λ r. IsInPlace (as_written r.0) × IsInPlace (as_written r.1)) }
 {
     let first = past_run::<Blanks>(text);
     let (low, behind) = cut_run::<Solids>(first);
@@ -163,8 +163,8 @@ fn hyphen_range(text: &[u8], at: usize) -> Option<(NpmPiece<'_>, NpmPiece<'_>)>
 /// What an alternative is made of.
 fn made_of(alloc: Global, text: &[u8], at: usize) -> Result<Pieces<'_, Kind>, AllocError>
     requires { at + length text.now < 2 ^ 64 }
-    ensures pieces { IfOk result (λ v. IsMadeOf at text.now (seen_all v)) }
-    ensures placed { IfOk result (λ v. AllByRecursion IsInPlace (seen_all v)) }
+    ensures pieces { IfOk result (λ v. IsMadeOf at text.now (all_as_written v)) }
+    ensures placed { IfOk result (λ v. AllByRecursion IsInPlace (all_as_written v)) }
 {
     match hyphen_range(text, at) {
         Some((low, high)) => {
@@ -180,8 +180,8 @@ fn made_of(alloc: Global, text: &[u8], at: usize) -> Result<Pieces<'_, Kind>, Al
 /// The pieces of each alternative of a range text.
 pub(crate) fn cut_text(alloc: Global, text: &[u8]) -> Result<Groups<'_, Kind>, AllocError>
     requires { length text.now < 2 ^ 64 }
-    ensures cut { IfOk result (λ groups. IsCut text.now (map seen_all groups)) }
-    ensures placed { IfOk result (λ groups. AllByRecursion (AllByRecursion IsInPlace) (map seen_all groups)) }
+    ensures cut { IfOk result (λ groups. IsCut text.now (map all_as_written groups)) }
+    ensures placed { IfOk result (λ groups. AllByRecursion (AllByRecursion IsInPlace) (map all_as_written groups)) }
 {
     let mut groups = Few::new(alloc);
     let mut at = 0;

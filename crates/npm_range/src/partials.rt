@@ -1,8 +1,6 @@
 ghost use Rattle.std.specs.Prelude.{◌≡◌, ◌==◌, ◌<◌, ◌+◌, ◌^◌, true, length, Some, IfOk, IfErr};
 ghost use Rattle.std.specs.List.{list_all};
-ghost use Rattle.std.specs.Char.{is_ascii_digit};
-ghost use Rattle.vx_spec.specs.Numerals.{is_numeral};
-ghost use Rattle.npm_scheme.specs.Spelling.{AreVersionParts, has_leading_zero, whole};
+ghost use Rattle.npm_scheme.specs.Spelling.{AreVersionParts, whole};
 ghost use Rattle.npm_scheme.specs.Written.{parts};
 ghost use Rattle.npm_range.specs.Reading.{is_any, is_number, is_short, numbers, values};
 ghost use Rattle.npm_range.specs.Steps.Numbers.{AreNumbers, values_in, past_of, past_in, LeadsTo, AnswersShort};
@@ -10,7 +8,7 @@ ghost use Rattle.npm_range.specs.Steps.Partials.{AnswersWhole, AnswersPartial};
 
 use crate::construct::Partial;
 use crate::making::release;
-use npm_scheme::{Written, past_numeral, plain_version_of_parts, take_apart};
+use npm_scheme::{Written, is_plain_numeral, past_numeral, plain_version_of_parts, take_apart};
 use std::alloc::Global;
 use vx_range::PieceReading;
 use vx_scheme::{NoMemory, VersionFault};
@@ -25,28 +23,10 @@ fn is_any(text: &[u8]) -> bool
     }
 }
 
-fn all_digits(text: &[u8]) -> bool
-    ensures { result ≡ list_all is_ascii_digit text.now }
-{
-    text.iter().all(|byte| byte.is_ascii_digit())
-}
-
-fn is_numeral(text: &[u8]) -> bool
-    ensures { result ≡ is_numeral text.now }
-{
-    !text.is_empty() && all_digits(text)
-}
-
-fn has_leading_zero(text: &[u8]) -> bool
-    ensures { result ≡ has_leading_zero text.now }
-{
-    text.len() > 1 && text[0] == b'0'
-}
-
 fn is_number(text: &[u8]) -> bool
     ensures { result ≡ is_number text.now }
 {
-    is_any(text) || is_numeral(text) && !has_leading_zero(text)
+    is_any(text) || is_plain_numeral(text)
 }
 
 /// Whether the text is one to three numbers.

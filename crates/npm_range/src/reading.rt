@@ -1,5 +1,5 @@
 ghost use Rattle.std.specs.Prelude.{◌≡◌, ◌≤◌, length, IfOk, IfSome, MatchOption};
-ghost use Rattle.vx_range.specs.Pieces.{seen, IsInPlace};
+ghost use Rattle.vx_range.specs.Pieces.{as_written, IsInPlace};
 ghost use Rattle.vx_range.specs.Reading.{AnswersPiece};
 ghost use Rattle.npm_range.specs.Reading.{IsOperator, HasOperator, without, partial_text, ReadsAs};
 ghost use Rattle.npm_range.specs.Refusals.{IsPast};
@@ -43,8 +43,8 @@ fn without(text: &[u8], sign: u8) -> &[u8]
 
 /// The operator of a piece, and the text of its partial. It takes no memory.
 fn operator_and_partial<'a>(piece: &NpmPiece<'a>) -> Option<(Operator, &'a [u8])>
-    ensures is { MatchOption result (HasNoOperator (seen piece.now))
-        (λ r. HasOperator (seen piece.now).kind (seen piece.now).bytes r.0 × (r.1.now ≡ partial_text (seen piece.now))) }
+    ensures is { MatchOption result (HasNoOperator (as_written piece.now))
+        (λ r. HasOperator (as_written piece.now).kind (as_written piece.now).bytes r.0 × (r.1.now ≡ partial_text (as_written piece.now))) }
     ensures within { IfSome result (λ r. length r.1.now ≤ length piece.now.bytes.now) }
 {
     match piece.kind {
@@ -72,8 +72,8 @@ pub(crate) fn read_piece(
     alloc: Global,
     piece: &NpmPiece,
 ) -> Result<PieceReading<Construct>, NoMemory>
-    requires { IsInPlace (seen piece.now) }
-    ensures { IfOk result (AnswersPiece ReadsAs IsPast (seen piece.now)) }
+    requires { IsInPlace (as_written piece.now) }
+    ensures { IfOk result (AnswersPiece ReadsAs IsPast (as_written piece.now)) }
 {
     let Some((operator, bytes)) = operator_and_partial(piece) else {
         return Ok(PieceReading::NoConstruct);

@@ -2,7 +2,8 @@
 use Rattle.std.proofs.Common.{◌≡◌, ℕ, List, ◌∷◌, ◌++◌, refl, sym, ◌∙◌, Option, Some}
 use Rattle.vx_spec.specs.Marks.{IsCut}
 use Rattle.vx_spec.proofs.MarkLaws.{one_cut}
-use Rattle.vx_order.specs.Dotted.{dot, pieces}
+use Rattle.vx_spec.specs.Signs.{dot}
+use Rattle.vx_order.specs.Dotted.{pieces}
 use Rattle.vx_order.specs.Cuts.{IsCutApart}
 use Rattle.vx_order.specs.Laws.Dotted.{Found, cut_whole, found}
 use Rattle.npm_scheme.specs.Written.{IsVersionWritten}

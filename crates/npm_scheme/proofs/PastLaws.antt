@@ -3,7 +3,8 @@ use Rattle.std.proofs.Common.{◌≡◌, ◌≤◌, ◌+◌, ℕ, true, List, �
 use Rattle.std.proofs.lemmas.Bool.{and_parts}
 use Rattle.vx_spec.specs.Marks.{marked}
 use Rattle.vx_spec.specs.Numerals.{is_numeral}
-use Rattle.vx_order.specs.Dotted.{dot, hyphen, pieces, plus, tail}
+use Rattle.vx_spec.specs.Signs.{dot, hyphen, plus}
+use Rattle.vx_order.specs.Dotted.{pieces, tail}
 use Rattle.vx_order.specs.Laws.Dotted.{tail_pieces}
 use Rattle.vx_order.proofs.PastPartLaws.{fine, idents_fine, idents_none, join_none, not_past, split_none}
 use Rattle.npm_scheme.specs.Version.{IsWithin}

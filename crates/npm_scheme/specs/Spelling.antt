@@ -3,7 +3,8 @@
 use Rattle.std.specs.Prelude.{◌≡◌, ℕ, ◌&&◌, ◌==◌, not, nat_lt, Bool, true, List, ◌∷◌, ◌++◌, length, map, slice_index}
 use Rattle.std.specs.List.{list_all, join_with_byte}
 use Rattle.vx_spec.specs.Numerals.{is_numeral, value}
-use Rattle.vx_order.specs.Dotted.{dot, hyphen, plus, tail}
+use Rattle.vx_spec.specs.Signs.{dot, hyphen, plus}
+use Rattle.vx_order.specs.Dotted.{tail}
 use Rattle.vx_order.specs.Identifiers.{identifier_of, is_identifier}
 use Rattle.npm_scheme.specs.Version.{Fields}
 

@@ -1,9 +1,10 @@
 use crate::order::compare_versions;
+use crate::spelling;
 use crate::version::{NpmVersion, copy};
-use crate::{spelling, writing};
 use std::alloc::Global;
 use std::cmp::Ordering;
 use vx_scheme::{NoMemory, Scheme, SchemeName, Text, VersionFault};
+use vx_text::push_whole;
 
 /// The scheme of npm.
 #[derive(Debug, Clone, Copy)]
@@ -51,7 +52,7 @@ impl Scheme for Npm {
     /// Appends the normal text, which leaves the build out.
     fn write(version: &NpmVersion, out: &mut Text) -> Result<(), NoMemory> {
         let _major = version.major;
-        writing::write(version, out)
+        push_whole(version, out)
     }
 
     /// How two versions compare: by the first place at which their keys differ.

@@ -3,7 +3,8 @@ ghost use Rattle.std.specs.Option.{option_copied};
 ghost use Rattle.std.specs.List.{join_with_byte, list_all};
 ghost use Rattle.vx_scheme.specs.Scheme.{Refuses};
 ghost use Rattle.vx_scheme.specs.Values.{Gives};
-ghost use Rattle.vx_order.specs.Dotted.{dot, pieces};
+ghost use Rattle.vx_spec.specs.Signs.{dot};
+ghost use Rattle.vx_order.specs.Dotted.{pieces};
 ghost use Rattle.vx_order.specs.Identifiers.{is_identifier};
 ghost use Rattle.npm_scheme.specs.Version.{IsWithin, build_pieces, with_build, without_build};
 ghost use Rattle.npm_scheme.specs.Spelling.{AreVersionParts, version_of, Spells, has_leading_zero, is_plain_numeral, is_pre_identifier};
@@ -86,25 +87,24 @@ fn dotted(text: &str) -> Option<(&str, &str, &str)>
 fn has_form(written: &Written) -> bool
     ensures { IsTrue result ↔ AreVersionParts (parts written.now) }
 {
-    is_plain_numeral(written.major)
-        && is_plain_numeral(written.minor)
-        && is_plain_numeral(written.patch)
+    is_plain_numeral(written.major.as_bytes())
+        && is_plain_numeral(written.minor.as_bytes())
+        && is_plain_numeral(written.patch.as_bytes())
         && all_parts::<PreIdentifiers>(written.pre)
         && all_parts::<Identifiers>(written.build)
 }
 
 /// Whether the text is a numeral without leading zeros. It takes no memory.
-pub fn is_plain_numeral(text: &str) -> bool
+pub fn is_plain_numeral(text: &[u8]) -> bool
     ensures { result ≡ is_plain_numeral text.now }
 {
     is_numeral(text) && !has_leading_zero(text)
 }
 
-fn has_leading_zero(text: &str) -> bool
+fn has_leading_zero(text: &[u8]) -> bool
     ensures { result ≡ has_leading_zero text.now }
 {
-    let bytes = text.as_bytes();
-    bytes.len() > 1 && bytes[0] == b'0'
+    text.len() > 1 && text[0] == b'0'
 }
 
 // Identifiers that have no leading zeros where they are digits alone.
@@ -123,7 +123,8 @@ impl PartForm for PreIdentifiers {
 fn is_pre_identifier(text: &str) -> bool
     ensures { result ≡ is_pre_identifier text.now }
 {
-    is_identifier(text) && !(is_numeral(text) && has_leading_zero(text))
+    let bytes = text.as_bytes();
+    is_identifier(text) && !(is_numeral(bytes) && has_leading_zero(bytes))
 }
 
 /// The version that the parts stand for. `Numeral` comes exactly where one of their numerals passes 2^128-1, unless

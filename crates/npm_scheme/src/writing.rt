@@ -1,32 +1,24 @@
-ghost use Rattle.std.specs.Prelude.{◌≡◌, ◌++◌, ◌∷◌, [], OnOk, OnErr};
+ghost use Rattle.std.specs.Prelude.{◌≡◌, ◌++◌, ◌∷◌, [], OnOk};
 ghost use Rattle.vx_spec.specs.Numerals.{numeral_text};
-ghost use Rattle.vx_order.specs.Dotted.{dot};
-ghost use Rattle.vx_order.specs.Cuts.{IsBegunBy};
-ghost use Rattle.npm_scheme.specs.Writing.{normal, numbers_text};
+ghost use Rattle.vx_text.specs.Begun.{IsBegunBy};
+ghost use Rattle.vx_spec.specs.Signs.{dot};
+ghost use Rattle.npm_scheme.specs.Writing.{numbers_text};
 
 use crate::version::NpmVersion;
 use vx_order::push_pre_release;
 use vx_scheme::{NoMemory, Text};
+use vx_text::Pushes;
 
-/// Appends the normal text. A refused call leaves the text as it was.
-pub(crate) fn write(version: &NpmVersion, out: &mut Text) -> Result<(), NoMemory>
-    ensures ok { OnOk result (out.new ≡ out.old ++ normal version.now) }
-    ensures err { OnErr result (out.new ≡ out.old) }
-{
-    let start = out.as_str().len();
-    let written = push_version(out, version);
-    if written.is_err() {
-        out.cut(start);
+impl Pushes for NpmVersion {
+    ghost use Rattle.npm_scheme.specs.Writing.{normal};
+
+    ghost text = { normal };
+
+    /// Appends the normal text.
+    fn push(&self, out: &mut Text) -> Result<(), NoMemory> {
+        push_core(out, self)?;
+        push_pre_release(out, self.pre.as_slice())
     }
-    written
-}
-
-fn push_version(out: &mut Text, version: &NpmVersion) -> Result<(), NoMemory>
-    ensures ok { OnOk result (out.new ≡ out.old ++ normal version.now) }
-    ensures begun { IsBegunBy out.old out.new }
-{
-    push_core(out, version)?;
-    push_pre_release(out, version.pre.as_slice())
 }
 
 // The three numbers.

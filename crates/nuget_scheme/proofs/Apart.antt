@@ -5,7 +5,8 @@ use Rattle.std.proofs.lemmas.Bool.{and_from, and_parts, lt-ltb}
 use Rattle.std.proofs.lemmas.List.Splits.{join_with_byte-slice_split}
 use Rattle.vx_spec.specs.Numerals.{is_numeral}
 use Rattle.vx_text.proofs.Joins.{split_some}
-use Rattle.vx_order.specs.Dotted.{dot, dotted, pieces}
+use Rattle.vx_spec.specs.Signs.{dot}
+use Rattle.vx_order.specs.Dotted.{dotted, pieces}
 use Rattle.vx_order.specs.Identifiers.{is_identifier}
 use Rattle.vx_order.specs.Cuts.{IsCutApart}
 use Rattle.vx_order.specs.Laws.Dotted.{cut_whole, found}

@@ -1,21 +1,19 @@
 -- Where the first numeral past the limit begins, and that a version is within the limit where there is none.
-use Rattle.std.proofs.Common.{◌≡◌, ◌↔◌, ◌<◌, ◌+◌, ◌++◌, ◌^◌, not, ℕ, zero, suc, true, false, List, [], ◌∷◌, length, refl, sym, ap, ◌∙◌, Option, Some, None, arith, nat_lt}
+use Rattle.std.proofs.Common.{◌≡◌, ◌↔◌, ◌<◌, ◌+◌, ◌++◌, ◌^◌, ℕ, zero, suc, true, List, [], ◌∷◌, length, refl, sym, ap, ◌∙◌, Option, Some, None, arith, nat_lt}
 use Rattle.std.specs.List.{AllByRecursion, list_all}
 use Rattle.std.specs.Option.{option_or}
-use Rattle.std.proofs.lemmas.Bool.{and_from, and_parts, ltb-true, ne_eqb}
-use Rattle.vx_spec.specs.Marks.{Lacks}
+use Rattle.std.proofs.lemmas.Bool.{and_parts, ltb-true}
+use Rattle.vx_spec.specs.Marks.{IsCut, before_mark}
 use Rattle.vx_spec.specs.Numerals.{is_numeral, value}
-use Rattle.vx_spec.specs.Runs.{begins, past}
-use Rattle.vx_spec.proofs.RunLaws.{one_run}
-use Rattle.vx_text.proofs.Joins.{split_join}
-use Rattle.vx_order.specs.Dotted.{dot, dotted, hyphen, plus, tail}
-use Rattle.vx_order.specs.Identifiers.{is_identifier}
+use Rattle.vx_spec.proofs.MarkLaws.{apart, cut_apart}
+use Rattle.vx_spec.specs.Signs.{dot, hyphen, plus}
+use Rattle.vx_order.specs.Dotted.{dotted, pieces, tail}
 use Rattle.vx_order.specs.PastParts.{first_past_part}
-use Rattle.vx_order.specs.Laws.Dotted.{front_lacks, identifiers_lack}
+use Rattle.vx_order.specs.Laws.Dotted.{front_lacks, identifiers_lack, pieces_together, tail_marked, together}
 use Rattle.vx_order.proofs.PastPartLaws.{fine, idents_fine, idents_none, join_none, not_past, split_none}
 use Rattle.nuget_scheme.specs.Version.{Fields, IsWithin}
 use Rattle.nuget_scheme.specs.Spelling.{Parts, AreVersionParts, Spells, number_at, version_of, whole}
-use Rattle.nuget_scheme.specs.Past.{first_past_front, first_past_label, is_no_hyphen, is_no_plus, past_numeral_of}
+use Rattle.nuget_scheme.specs.Past.{first_past_front, past_numeral_of}
 use Rattle.nuget_scheme.specs.Laws.Unique.{core, core_lacks_hyphen, core_lacks_plus, dotted_joined, numerals_lack}
 
 -- ---- numbers
@@ -56,38 +54,20 @@ small_each (w ∷ x ∷ y ∷ z ∷ more ∷ parts) few a b c d = absurd (omega 
 
 -- ---- the whole text
 
-lacks_plus : (text : List ℕ) → Lacks plus text → list_all is_no_plus text ≡ true
-lacks_plus [] h = refl
-lacks_plus (b ∷ text) h = and_from (is_no_plus b) (list_all is_no_plus text) (ap not (ne_eqb b plus h.0)) (lacks_plus text h.1)
-
-lacks_hyphen : (text : List ℕ) → Lacks hyphen text → list_all is_no_hyphen text ≡ true
-lacks_hyphen [] h = refl
-lacks_hyphen (b ∷ text) h = and_from (is_no_hyphen b) (list_all is_no_hyphen text) (ap not (ne_eqb b hyphen h.0)) (lacks_hyphen text h.1)
-
-build_begins : (xs : List (List ℕ)) → begins is_no_plus (tail plus xs) ≡ false
-build_begins [] = refl
-build_begins (x ∷ xs) = refl
-
-labels_begin : (xs : List (List ℕ)) → begins is_no_hyphen (tail hyphen xs) ≡ false
-labels_begin [] = refl
-labels_begin (x ∷ xs) = refl
-
-label_parts : (at : ℕ) (xs : List (List ℕ)) → list_all is_identifier xs ≡ true → first_past_label at (tail hyphen xs) ≡ first_past_part (at + 1) xs
-label_parts at [] all = refl
-label_parts at (x ∷ xs) all = ap (first_past_part (at + 1)) (split_join dot x xs (identifiers_lack dot refl (x ∷ xs) all))
+-- what is looked for in a front, where that is cut at its '-'
+pub cut_at : (at : ℕ) (front numbers : List ℕ) (labels : Option (List ℕ)) → IsCut hyphen front numbers labels
+    → first_past_front at front ≡ option_or (first_past_part at (dotted numbers)) (first_past_part (at + length numbers + 1) (pieces labels))
+cut_at at front numbers labels cut = let r = cut_apart hyphen front numbers labels cut in rw (r.0, r.1) refl
 
 -- what is looked for in a version's text is looked for among its numbers and then its labels
 whole_parts : (at : ℕ) (p : Parts) → AreVersionParts p → past_numeral_of at (whole p) ≡ option_or (first_past_part at p.numbers) (first_past_part (at + length (core p) + 1) p.labels)
 whole_parts at p form =
     let front = core p ++ tail hyphen p.labels in
-    let before = one_run is_no_plus front (tail plus p.build) (lacks_plus front (front_lacks (core p) p.labels (core_lacks_plus p form) form.labels)) (build_begins p.build) in
-    let numbers = one_run is_no_hyphen (core p) (tail hyphen p.labels) (lacks_hyphen (core p) (core_lacks_hyphen p form)) (labels_begin p.labels) in
-    let split = dotted_joined p.numbers form.some (numerals_lack dot refl p.numbers form.numerals) in
-    ap (first_past_front at) before.0
-    ∙ ap (λ (n : List ℕ). option_or (first_past_part at (dotted n)) (first_past_label (at + length n) (past is_no_hyphen front))) numbers.0
-    ∙ ap (λ (ns : List (List ℕ)). option_or (first_past_part at ns) (first_past_label (at + length (core p)) (past is_no_hyphen front))) split
-    ∙ ap (λ (l : List ℕ). option_or (first_past_part at p.numbers) (first_past_label (at + length (core p)) l)) numbers.1
-    ∙ ap (λ (found : Option ℕ). option_or (first_past_part at p.numbers) found) (label_parts (at + length (core p)) p.labels form.labels)
+    let before : before_mark plus (whole p) ≡ front = rw (tail_marked plus p.build) (apart plus front (together p.build) (front_lacks (core p) p.labels (core_lacks_plus p form) form.labels)).0 in
+    let cut = cut_at at front (core p) (together p.labels) (record { joined = ap (λ (t : List ℕ). core p ++ t) (tail_marked hyphen p.labels); first = core_lacks_hyphen p form }) in
+    let numbers = dotted_joined p.numbers form.some (numerals_lack dot refl p.numbers form.numerals) in
+    let labels = pieces_together p.labels (identifiers_lack dot refl p.labels form.labels) in
+    rw (before, cut, numbers, labels) refl
 
 either : (a b : Option ℕ) → (option_or a b ≡ None) ↔ (a ≡ None) × (b ≡ None)
 either None b = (λ e. (refl, e), λ h. h.1)

@@ -2,7 +2,8 @@
 use Rattle.std.specs.Prelude.{◌==◌, ℕ, List, [], ◌∷◌, ◌++◌, map, if◌then◌else◌}
 use Rattle.std.specs.List.{join_with_byte}
 use Rattle.vx_spec.specs.Numerals.{numeral_text}
-use Rattle.vx_order.specs.Dotted.{dot, hyphen, tail}
+use Rattle.vx_spec.specs.Signs.{dot, hyphen}
+use Rattle.vx_order.specs.Dotted.{tail}
 use Rattle.vx_order.specs.Identifiers.{identifier_text}
 use Rattle.nuget_scheme.specs.Version.{Fields}
 

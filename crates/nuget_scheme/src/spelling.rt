@@ -11,25 +11,12 @@ ghost use Rattle.nuget_scheme.specs.Steps.Written.{IsNext, IsVersionWritten, NoV
 
 use crate::version::NugetVersion;
 use std::alloc::Global;
-use vx_order::{Identifiers, PartForm, all_parts, cut_apart, read_idents};
+use vx_order::{Identifiers, MadeOf, all_parts, cut_apart, read_idents};
 use vx_scheme::VersionFault;
-use vx_text::{cut, is_numeral, numeral_of};
+use vx_text::{Digits, cut, numeral_of};
 
 // A version has no more numbers.
 const MOST_NUMBERS: usize = 4;
-
-// Numerals, with leading zeros or without.
-struct Numerals;
-
-impl PartForm for Numerals {
-    ghost use Rattle.vx_spec.specs.Numerals.{is_numeral};
-
-    ghost holds = { is_numeral };
-
-    fn is_one(part: &str) -> bool {
-        is_numeral(part)
-    }
-}
 
 /// The parts of a version's text, as they are written.
 #[derive(Clone, Copy)]
@@ -75,7 +62,7 @@ fn has_form(written: &Written) -> bool
     ensures { result ≡ has_form (parts written.now) }
 {
     are_few(written.numbers)
-        && all_parts::<Numerals>(Some(written.numbers))
+        && all_parts::<MadeOf<Digits>>(Some(written.numbers))
         && all_parts::<Identifiers>(written.labels)
         && all_parts::<Identifiers>(written.build)
 }

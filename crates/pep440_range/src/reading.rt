@@ -2,7 +2,7 @@ ghost use Rattle.std.specs.Prelude.{◌≡◌, ◌≢◌, ◌+◌, ◌<◌, ◌�
 ghost use Rattle.std.specs.List.{list_all};
 ghost use Rattle.std.specs.Option.{option_copied};
 ghost use Rattle.vx_spec.specs.Runs.{is_solid};
-ghost use Rattle.vx_range.specs.Pieces.{seen, IsInPlace};
+ghost use Rattle.vx_range.specs.Pieces.{as_written, IsInPlace};
 ghost use Rattle.vx_range.specs.Reading.{AnswersPiece};
 ghost use Rattle.pep440_scheme.specs.Past.{past_numeral_of};
 ghost use Rattle.pep440_range.specs.Reading.{before_star, operator_at, ReadsAs};
@@ -158,8 +158,8 @@ pub(crate) fn read_piece(
     alloc: Global,
     piece: &Piece<'_, ()>,
 ) -> Result<PieceReading<Construct>, NoMemory>
-    requires { IsInPlace (seen piece.now) }
-    ensures { IfOk result (AnswersPiece ReadsAs IsPast (seen piece.now)) }
+    requires { IsInPlace (as_written piece.now) }
+    ensures { IfOk result (AnswersPiece ReadsAs IsPast (as_written piece.now)) }
 {
     let Some((operator, rest)) = operator_at(piece.bytes) else {
         return Ok(PieceReading::NoConstruct);

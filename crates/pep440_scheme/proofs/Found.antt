@@ -16,7 +16,9 @@ use Rattle.vx_text.specs.Folding.{lowered}
 use Rattle.vx_text.proofs.Joins.{split_some}
 use Rattle.vx_scheme.specs.Values.{Gives}
 use Rattle.vx_scheme.specs.declared.version_fault.VersionFault.{VersionFault}
-use Rattle.pep440_scheme.specs.Spelling.{LocalPart, Spells, Suffix, are_locals, bang, dot, has_byte, is_closed, is_epoch, is_implicit, is_later_local, is_local_text, is_separator, is_v, local_of, local_text, may_follow, option_text, plus, suffix_value}
+use Rattle.vx_spec.specs.Signs.{bang, dot, plus}
+use Rattle.vx_text.specs.EpochParts.{is_epoch}
+use Rattle.pep440_scheme.specs.Spelling.{LocalPart, Spells, Suffix, are_locals, has_byte, is_closed, is_implicit, is_later_local, is_local_text, is_separator, is_v, local_of, local_text, may_follow, option_text, suffix_value}
 use Rattle.pep440_scheme.specs.Steps.Apart.{Apart, AreTaken, Step, after_release, after_v, apart, are_digits, epoch_by, epoch_step, fields_of, is_dot, is_label, is_release_byte, label_parts, release_at, release_parts, small_v, dev_step, post_step, pre_step}
 use Rattle.pep440_scheme.specs.Laws.Ends.{end_found}
 use Rattle.pep440_scheme.specs.Laws.Behind.{suffix_digits}

@@ -11,7 +11,8 @@ use Rattle.vx_text.specs.Folding.{lowered}
 use Rattle.pep440_scheme.specs.declared.version.PreKind.{PreKind}
 use Rattle.pep440_scheme.specs.declared.words.Mark.{Mark}
 use Rattle.pep440_scheme.specs.declared.words.Mark.TheVariants.{Pre, Post, Dev}
-use Rattle.pep440_scheme.specs.Spelling.{Suffix, has_byte, hyphen, is_closed, is_dev, is_dev_mark, is_gap, is_implicit, is_post, is_post_mark, is_pre, is_pre_mark, is_separator, is_suffix, option_text, pre_value, suffix_text}
+use Rattle.vx_spec.specs.Signs.{hyphen}
+use Rattle.pep440_scheme.specs.Spelling.{Suffix, has_byte, is_closed, is_dev, is_dev_mark, is_gap, is_implicit, is_post, is_post_mark, is_pre, is_pre_mark, is_separator, is_suffix, option_text, pre_value, suffix_text}
 use Rattle.pep440_scheme.specs.Words.{MarkWord, mark_in, mark_words}
 use Rattle.pep440_scheme.specs.Steps.Apart.{Begun, PreStep, Step, Taken, after_gap, after_word, are_digits, are_pre_digits, begun_by, dev_step, dev_taken, first_word, is_dashed, post_step, post_taken, pre_part_of, pre_step, pre_taken, suffix_at, taken_by}
 use Rattle.pep440_scheme.specs.Laws.FirstWords.{word_again}

@@ -5,22 +5,26 @@ use Rattle.std.specs.List.{AllByRecursion, flat_map, join_with_byte, list_all, s
 use Rattle.std.specs.Option.{option_or}
 use Rattle.std.specs.Str.{bytes_eq}
 use Rattle.std.proofs.lemmas.Slice.Eq.{bytes_eq-Decides}
-use Rattle.std.proofs.lemmas.List.Folds.{list_all-append}
 use Rattle.pep440_scheme.specs.Steps.Apart.{small_v}
-use Rattle.std.proofs.lemmas.Bool.{and_from, and_parts, cases_Bool, eqb-true, lt-ltb, ltb-true, not-false}
+use Rattle.std.proofs.lemmas.Bool.{and_parts, cases_Bool, eqb-false, eqb-true, lt-ltb, ltb-true, not-false}
 use Rattle.std.proofs.lemmas.Bool.Decides.{nat_tests}
-use Rattle.vx_spec.specs.Marks.{in_front}
+use Rattle.vx_spec.specs.Marks.{IsCut, Lacks, in_front}
 use Rattle.vx_spec.specs.Numerals.{is_numeral, value}
 use Rattle.vx_spec.specs.Runs.{begins, is_blank, run, without_end}
+use Rattle.vx_spec.proofs.EndLaws.{lacks_append, lacks_by}
+use Rattle.vx_spec.proofs.MarkLaws.{cut_apart}
 use Rattle.vx_spec.proofs.RunLaws.{one_run, run_stays}
 use Rattle.vx_text.specs.Folding.{lowered}
 use Rattle.vx_text.specs.Past.{NonePast, first_past, is_past}
 use Rattle.vx_text.proofs.PastLaws.{none_behind, none_front, none_past, none_run, run_front}
 use Rattle.vx_scheme.specs.declared.ident.Ident.{Ident}
+use Rattle.vx_order.specs.PastParts.{is_past_numeral}
 use Rattle.pep440_scheme.specs.declared.words.Mark.{Mark}
 use Rattle.pep440_scheme.specs.Version.{Fields, IsSmall, IsSmallLocal, IsSmallOption, IsSmallPre, IsWithin}
-use Rattle.pep440_scheme.specs.Spelling.{AreVersionParts, LocalPart, Parts, Spells, Suffix, are_locals, bang, dot, epoch_value, is_dev, is_epoch, is_gap, is_implicit, is_later_local, is_local_text, is_post, is_pre, is_separator, is_v, local_of, local_text, option_text, plus, pre_value, suffix_text, suffix_value, version_of, whole}
-use Rattle.pep440_scheme.specs.Past.{first_past_local, first_past_part, is_past_numeral, is_public_byte, past_numeral_of}
+use Rattle.vx_spec.specs.Signs.{bang, dot, plus}
+use Rattle.vx_text.specs.EpochParts.{epoch_value, is_epoch}
+use Rattle.pep440_scheme.specs.Spelling.{AreVersionParts, LocalPart, Parts, Spells, Suffix, are_locals, is_dev, is_gap, is_implicit, is_later_local, is_local_text, is_post, is_pre, is_separator, is_v, local_of, local_text, option_text, pre_value, suffix_text, suffix_value, version_of, whole}
+use Rattle.pep440_scheme.specs.Past.{first_past_local, first_past_part, past_numeral_of}
 use Rattle.pep440_scheme.specs.Laws.Suffixes.{IsSuffix, suffix_apart, suffix_parts}
 use Rattle.pep440_scheme.specs.Laws.Behind.{dash_form, dev_form, post_form, pre_form}
 use Rattle.pep440_scheme.specs.Laws.Ends.{without_end_append}
@@ -248,23 +252,17 @@ public_front p rest form none =
 
 -- ---- no '+' stands before the label
 
-inner_public : (text : List ℕ) → AreInner text → list_all is_public_byte text ≡ true
-inner_public [] all = refl
-inner_public (b ∷ text) all = and_from (is_public_byte b) (list_all is_public_byte text) (ap not all.0.1) (inner_public text all.1)
+inner_public : (text : List ℕ) → AreInner text → Lacks plus text
+inner_public [] all = tt
+inner_public (b ∷ text) all = (eqb-false b plus all.0.1, inner_public text all.1)
 
-blanks_public : (text : List ℕ) → list_all is_blank text ≡ true → list_all is_public_byte text ≡ true
-blanks_public [] all = refl
-blanks_public (b ∷ text) all =
-    let a = and_parts (is_blank b) (list_all is_blank text) all in
-    and_from (is_public_byte b) (list_all is_public_byte text) (blank_public b a.0) (blanks_public text a.1)
-  where
-    blank_public : (c : ℕ) → is_blank c ≡ true → is_public_byte c ≡ true
-    blank_public c passes = grind (arith, nat_tests)
+blanks_public : (text : List ℕ) → list_all is_blank text ≡ true → Lacks plus text
+blanks_public = lacks_by is_blank plus refl
 
-public_bytes : (p : Parts) → AreVersionParts p → list_all is_public_byte (public_text p) ≡ true
+public_bytes : (p : Parts) → AreVersionParts p → Lacks plus (public_text p)
 public_bytes p form =
-    list_all-append is_public_byte p.before (p.v ++ public_core p)
-    ∙ and_from _ _ (blanks_public p.before form.before) (list_all-append is_public_byte p.v (public_core p) ∙ and_from _ _ (inner_public p.v (v_inner p.v form.v)) (inner_public (public_core p) (public_inner p form)))
+    lacks_append plus p.before (p.v ++ public_core p) (blanks_public p.before form.before)
+    (lacks_append plus p.v (public_core p) (inner_public p.v (v_inner p.v form.v)) (inner_public (public_core p) (public_inner p form)))
 
 -- ---- the label
 
@@ -302,9 +300,9 @@ within_parts p = (
 )
 
 -- what is looked for, where the text is cut at its '+'
-cut_at : (at : ℕ) (public label : List ℕ) → list_all is_public_byte public ≡ true → begins is_public_byte label ≡ false
-    → past_numeral_of at (public ++ label) ≡ option_or (first_past at public) (first_past_local (at + length public) label)
-cut_at at public label all none = let r = one_run is_public_byte public label all none in rw (r.0, r.1) refl
+pub cut_at : (at : ℕ) (text public : List ℕ) (label : Option (List ℕ)) → IsCut plus text public label
+    → past_numeral_of at text ≡ option_or (first_past at public) (first_past_local (at + length public) label)
+cut_at at text public label cut = let r = cut_apart plus text public label cut in rw (r.0, r.1) refl
 
 none_first : (at : ℕ) (text : List ℕ) → (first_past at text ≡ None) ↔ NonePast text
 none_first at text = (none_past at text, first_none at text)
@@ -315,7 +313,7 @@ map_twice (part ∷ parts) = ap (λ idents. local_of part.text ∷ idents) (map_
 
 -- a label and the blanks behind it
 label_front : (at : ℕ) (part : LocalPart) (parts : List LocalPart) (behind : List ℕ) → are_locals (part ∷ parts) ≡ true → list_all is_blank behind ≡ true
-    → AllByRecursion IsSmallLocal (map (λ p. local_of p.text) (part ∷ parts)) ↔ (first_past_local at (plus ∷ ((part.text ++ flat_map local_text parts) ++ behind)) ≡ None)
+    → AllByRecursion IsSmallLocal (map (λ p. local_of p.text) (part ∷ parts)) ↔ (first_past_local at (Some ((part.text ++ flat_map local_text parts) ++ behind)) ≡ None)
 label_front at part parts behind is blanks =
     let body = part.text ++ flat_map local_text parts in
     let a = and_parts (part.sign == plus && is_local_text part.text) (list_all is_later_local parts) is in
@@ -323,7 +321,7 @@ label_front at part parts behind is blanks =
     let solid = (locals_solid (part ∷ parts) is).1 in
     let inner : without_end is_blank (body ++ behind) ≡ body = without_end_append is_blank body behind blanks (solid_ends body solid) in
     let split = split_label part.text parts b.1 a.1 in
-    let found : first_past_local at (plus ∷ (body ++ behind)) ≡ first_past_part at (map (λ p. p.text) (part ∷ parts)) =
+    let found : first_past_local at (Some (body ++ behind)) ≡ first_past_part at (map (λ p. p.text) (part ∷ parts)) =
     ap (λ (t : List ℕ). first_past_part at (slice_split is_separator t)) inner ∙ ap (first_past_part at) split in
     let small = small_parts at (map (λ p. p.text) (part ∷ parts)) in
     let same : AllByRecursion IsSmallLocal (map (λ p. local_of p.text) (part ∷ parts)) ↔ (first_past_part at (map (λ p. p.text) (part ∷ parts)) ≡ None) =
@@ -353,8 +351,8 @@ parts_agree : (at : ℕ) (p : Parts) (locals : List LocalPart) → AreVersionPar
     ↔ (past_numeral_of at (public_text p ++ (flat_map local_text locals ++ p.behind)) ≡ None)
 parts_agree at p [] form is =
     let whole' = public_text p ++ p.behind in
-    let all = list_all-append is_public_byte (public_text p) p.behind ∙ and_from _ _ (public_bytes p form) (blanks_public p.behind form.behind) in
-    let cut : past_numeral_of at whole' ≡ option_or (first_past at whole') None = ap (past_numeral_of at) (sym (append-nil whole')) ∙ cut_at at whole' [] all refl in
+    let lacks = lacks_append plus (public_text p) p.behind (public_bytes p form) (blanks_public p.behind form.behind) in
+    let cut : past_numeral_of at whole' ≡ option_or (first_past at whole') None = cut_at at whole' whole' None (record { joined = sym (append-nil whole'); first = lacks }) in
     let numbers = public_front p p.behind form (blanks_begin p.behind form.behind) in
     let both = either (first_past at whole') None in
     let first = none_first at whole' in
@@ -367,9 +365,9 @@ parts_agree at p (part ∷ parts) form is =
     let body = part.text ++ flat_map local_text parts in
     let a = and_parts (part.sign == plus && is_local_text part.text) (list_all is_later_local parts) is in
     let sign = eqb-true part.sign plus (and_parts (part.sign == plus) (is_local_text part.text) a.0).0 in
-    let cut = cut_at at public (plus ∷ (body ++ p.behind)) (public_bytes p form) refl in
+    let cut = cut_at at (public ++ (plus ∷ (body ++ p.behind))) public (Some (body ++ p.behind)) (record { joined = refl; first = public_bytes p form }) in
     let numbers = public_front p [] form refl in
-    let both = either (first_past at public) (first_past_local (at + length public) (plus ∷ (body ++ p.behind))) in
+    let both = either (first_past at public) (first_past_local (at + length public) (Some (body ++ p.behind))) in
     let first = none_first at public in
     let label = label_front (at + length public) part parts p.behind is form.behind in
     rw (sign, cut) (

@@ -8,7 +8,8 @@ use Rattle.std.proofs.lemmas.List.Splits.{length-slice_split}
 use Rattle.vx_text.proofs.Joins.{split_some}
 use Rattle.pep440_scheme.specs.declared.shape.Shape.{Shape}
 use Rattle.pep440_scheme.specs.Version.{Fields}
-use Rattle.pep440_scheme.specs.Spelling.{Spells, dot, is_separator, local_of}
+use Rattle.vx_spec.specs.Signs.{dot}
+use Rattle.pep440_scheme.specs.Spelling.{Spells, is_separator, local_of}
 use Rattle.pep440_scheme.specs.Shape.{HasShape, has_no_label}
 use Rattle.pep440_scheme.specs.declared.spelling.Written.{Written}
 use Rattle.pep440_scheme.specs.declared.spelling.WrittenPre.{WrittenPre}

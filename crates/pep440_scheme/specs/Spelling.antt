@@ -6,7 +6,9 @@ use Rattle.std.specs.Char.{is_ascii_alphanumeric, is_ascii_digit}
 use Rattle.std.specs.List.{flat_map, list_all, join_with_byte}
 use Rattle.vx_spec.specs.Marks.{in_front}
 use Rattle.vx_spec.specs.Numerals.{is_numeral, value}
-use Rattle.vx_spec.specs.Runs.{is_blank}
+use Rattle.vx_spec.specs.Runs.{is_blank, is_made_of}
+use Rattle.vx_spec.specs.Signs.{bang, dot, hyphen, plus, underscore}
+use Rattle.vx_text.specs.EpochParts.{epoch_value, is_epoch}
 use Rattle.vx_text.specs.Folding.{lowered}
 use Rattle.vx_scheme.specs.declared.ident.Ident.{Ident}
 use Rattle.vx_scheme.specs.declared.ident.Ident.TheVariants.{Number, Word}
@@ -40,26 +42,6 @@ pub record Parts : Type 0 where
   pub dev : Option Suffix
   pub locals : List LocalPart
   pub behind : List ℕ
-
--- the byte '.'
-abbrev pub dot : ℕ
-dot = 46
-
--- the byte '-'
-abbrev pub hyphen : ℕ
-hyphen = 45
-
--- the byte '_'
-abbrev pub underscore : ℕ
-underscore = 95
-
--- the byte '+'
-abbrev pub plus : ℕ
-plus = 43
-
--- the byte '!'
-abbrev pub bang : ℕ
-bang = 33
 
 -- what stands in the text for a suffix
 abbrev pub suffix_text : Suffix → List ℕ
@@ -99,11 +81,6 @@ is_gap (b ∷ c ∷ text) = false
 -- "Preceding v character": a 'v', or nothing
 abbrev pub is_v : List ℕ → Bool
 is_v text = bytes_eq text [] || bytes_eq (lowered text) (codes "v")
-
--- "Version epochs": an epoch that is not left out is a numeral
-abbrev pub is_epoch : Option (List ℕ) → Bool
-is_epoch None = true
-is_epoch (Some part) = is_numeral part
 
 -- the word stands for a pre-release, for a post-release, for a dev-release
 abbrev pub is_pre_mark : Option Mark → Bool
@@ -162,7 +139,7 @@ may_follow pre (Some s) = if is_implicit s then is_closed pre else true
 
 -- a part of a local version label: one letter or digit or more
 abbrev pub is_local_text : List ℕ → Bool
-is_local_text text = nat_lt 0 (length text) && list_all is_ascii_alphanumeric text
+is_local_text text = is_made_of is_ascii_alphanumeric text
 
 -- a part behind the first one, "Local version segments": behind '.', '-' or '_'
 abbrev pub is_later_local : LocalPart → Bool
@@ -188,11 +165,6 @@ pub record AreVersionParts (p : Parts) : Type 0 where
   pub dev : is_dev p.dev ≡ true
   pub follows : may_follow p.pre p.post ≡ true
   pub locals : are_locals p.locals ≡ true
-
--- "Version epochs": an epoch that is left out is 0
-abbrev pub epoch_value : Option (List ℕ) → ℕ
-epoch_value None = 0
-epoch_value (Some part) = value part
 
 -- the pre-release of a word's mark
 abbrev pub pre_of : Option Mark → ℕ → Option PrePart

@@ -4,6 +4,7 @@ use Rattle.std.specs.Prelude.{◌≡◌, ◌&&◌, ◌||◌, ◌^◌, ◌<◌, n
 use Rattle.std.specs.Char.{is_ascii_digit, is_ascii_lowercase}
 use Rattle.std.specs.List.{AllByRecursion, list_all}
 use Rattle.vx_spec.specs.Numerals.{is_numeral}
+use Rattle.vx_spec.specs.Runs.{is_made_of}
 use Rattle.vx_scheme.specs.declared.ident.Ident.{Ident}
 use Rattle.vx_scheme.specs.declared.ident.Ident.TheVariants.{Number, Word}
 use Rattle.pep440_scheme.specs.declared.version.PrePart.{PrePart}
@@ -24,7 +25,7 @@ is_word_byte b = is_ascii_digit b || is_ascii_lowercase b
 
 -- one such byte or more, not all of them digits
 abbrev pub is_word : List ℕ → Bool
-is_word text = (nat_lt 0 (length text) && list_all is_word_byte text) && not (is_numeral text)
+is_word text = is_made_of is_word_byte text && not (is_numeral text)
 
 -- "Local version identifiers": a part of a label that is digits alone is a number, and any other is compared without regard
 -- to its case

@@ -8,7 +8,7 @@ use Rattle.pep440_scheme.specs.declared.version.PreKind.{PreKind}
 use Rattle.pep440_scheme.specs.declared.version.PreKind.TheVariants.{A, B, Rc}
 use Rattle.pep440_scheme.specs.declared.version.PrePart.{PrePart}
 use Rattle.pep440_scheme.specs.Version.{Fields}
-use Rattle.pep440_scheme.specs.Spelling.{bang, dot, plus}
+use Rattle.vx_spec.specs.Signs.{bang, dot, plus}
 
 -- the epoch and '!', where it is not 0
 abbrev pub epoch_text : ℕ → List ℕ

@@ -1,9 +1,10 @@
 use crate::order::compare_versions;
+use crate::spelling;
 use crate::version::{Pep440Version, copy};
-use crate::{spelling, writing};
 use std::alloc::Global;
 use std::cmp::Ordering;
 use vx_scheme::{NoMemory, Scheme, SchemeName, Text, VersionFault};
+use vx_text::push_whole;
 
 /// The scheme of PyPI.
 #[derive(Debug, Clone, Copy)]
@@ -51,7 +52,7 @@ impl Scheme for Pypi {
     /// Appends the normal text.
     fn write(version: &Pep440Version, out: &mut Text) -> Result<(), NoMemory> {
         let _epoch = version.epoch;
-        writing::write(version, out)
+        push_whole(version, out)
     }
 
     /// How two versions compare: by the first place at which their keys differ.

@@ -1,5 +1,5 @@
 ghost use Rattle.std.specs.Prelude.{◌≡◌, ◌&&◌, ◌+◌, true, IsTrue, IfOk, IfErr, map, length};
-ghost use Rattle.std.specs.Char.{is_ascii_alphanumeric, is_ascii_digit};
+ghost use Rattle.std.specs.Char.{is_ascii_digit};
 ghost use Rattle.std.specs.List.{AllByRecursion, list_all, slice_split};
 ghost use Rattle.std.specs.Option.{option_copied, option_map};
 ghost use Rattle.vx_spec.specs.Numerals.{is_numeral, value};
@@ -7,7 +7,8 @@ ghost use Rattle.vx_spec.specs.Runs.{past, run};
 ghost use Rattle.vx_scheme.specs.Scheme.{Refuses};
 ghost use Rattle.vx_scheme.specs.Values.{Gives};
 ghost use Rattle.pep440_scheme.specs.Version.{IsSmall, IsSmallLocal, IsSmallOption, IsSmallPre, IsWithin};
-ghost use Rattle.pep440_scheme.specs.Spelling.{Spells, epoch_value, is_local_text, is_separator, local_of};
+ghost use Rattle.vx_text.specs.EpochParts.{epoch_value};
+ghost use Rattle.pep440_scheme.specs.Spelling.{Spells, is_local_text, is_separator, local_of};
 ghost use Rattle.pep440_scheme.specs.Steps.Apart.{AreTaken, after_release, after_v, apart, are_digits, behind_first, option_length, are_pre_digits, dev_step, epoch_step, fields_of, from_release, is_dashed, is_dot, is_label, label_parts, post_step, pre_part_of, pre_step, release_at, release_parts};
 ghost use Rattle.pep440_scheme.specs.Steps.Written.{parts, pre_taken};
 
@@ -16,7 +17,10 @@ use crate::words::{Mark, Suffix, is_separator, suffix_at};
 use std::alloc::Global;
 use std::str;
 use vx_scheme::{Ident, Idents, VersionFault};
-use vx_text::{ByteClass, Digits, cut_run, lower, number_of, trimmed, without_end};
+use vx_text::{
+    Alphanumeric, ByteClass, Digits, cut_run, is_made_of, is_numeral, lower, number_of, trimmed,
+    without_end,
+};
 
 /// A pre-release of a version's text.
 #[derive(Clone, Copy)]
@@ -238,18 +242,6 @@ fn is_release(text: &[u8]) -> bool
         .all(|part| is_numeral(part))
 }
 
-pub(crate) fn is_numeral(part: &[u8]) -> bool
-    ensures { result ≡ is_numeral part.now }
-{
-    !part.is_empty() && all_digits(part)
-}
-
-fn all_digits(part: &[u8]) -> bool
-    ensures { result ≡ list_all is_ascii_digit part.now }
-{
-    part.iter().all(|byte| byte.is_ascii_digit())
-}
-
 fn is_label(text: &[u8]) -> bool
     ensures { result ≡ is_label text.now }
 {
@@ -270,13 +262,7 @@ fn all_local_texts(label: &[u8]) -> bool
 fn is_local_text(part: &[u8]) -> bool
     ensures { result ≡ is_local_text part.now }
 {
-    !part.is_empty() && all_alphanumeric(part)
-}
-
-fn all_alphanumeric(part: &[u8]) -> bool
-    ensures { result ≡ list_all is_ascii_alphanumeric part.now }
-{
-    part.iter().all(|byte| byte.is_ascii_alphanumeric())
+    is_made_of::<Alphanumeric>(part)
 }
 
 /// The version that the parts stand for. `Numeral` comes exactly where one of their numerals passes 2^128-1, unless

@@ -1,33 +1,26 @@
 ghost use Rattle.std.specs.Prelude.{◌≡◌, ◌++◌, ◌∷◌, [], OnOk, OnErr, codes, map, take};
 ghost use Rattle.std.specs.List.{join_with_byte};
 ghost use Rattle.vx_spec.specs.Numerals.{numeral_text};
-ghost use Rattle.pep440_scheme.specs.Spelling.{dot};
-ghost use Rattle.pep440_scheme.specs.Writing.{ends_text, epoch_text, ident_text, kind_text, locals_text, normal, pre_text, release_text, suffixes_text, word_text};
-ghost use Rattle.pep440_scheme.specs.Steps.Begun.{IsBegunBy, dot_before, sign_before};
+ghost use Rattle.vx_text.specs.Begun.{IsBegunBy};
+ghost use Rattle.vx_spec.specs.Signs.{dot};
+ghost use Rattle.pep440_scheme.specs.Writing.{ends_text, epoch_text, ident_text, kind_text, locals_text, pre_text, release_text, suffixes_text, word_text};
+ghost use Rattle.pep440_scheme.specs.Steps.Begun.{dot_before, sign_before};
 
 use crate::version::{Pep440Version, PreKind, PrePart};
 use vx_scheme::{Ident, NoMemory, Text};
+use vx_text::Pushes;
 
-/// Appends the normal text. A refused call leaves the text as it was.
-pub(crate) fn write(version: &Pep440Version, out: &mut Text) -> Result<(), NoMemory>
-    ensures ok { OnOk result (out.new ≡ out.old ++ normal version.now) }
-    ensures err { OnErr result (out.new ≡ out.old) }
-{
-    let start = out.as_str().len();
-    let written = push_version(out, version);
-    if written.is_err() {
-        out.cut(start);
+impl Pushes for Pep440Version {
+    ghost use Rattle.pep440_scheme.specs.Writing.{normal};
+
+    ghost text = { normal };
+
+    /// Appends the normal text.
+    fn push(&self, out: &mut Text) -> Result<(), NoMemory> {
+        push_epoch(out, self.epoch)?;
+        push_release(out, self.release.as_slice())?;
+        push_suffixes(out, self)
     }
-    written
-}
-
-fn push_version(out: &mut Text, version: &Pep440Version) -> Result<(), NoMemory>
-    ensures ok { OnOk result (out.new ≡ out.old ++ normal version.now) }
-    ensures begun { IsBegunBy out.old out.new }
-{
-    push_epoch(out, version.epoch)?;
-    push_release(out, version.release.as_slice())?;
-    push_suffixes(out, version)
 }
 
 // The pre-release, the post-release, and what stands behind.

@@ -9,7 +9,8 @@ use Rattle.std.proofs.lemmas.Bool.Decides.{nat_tests}
 use Rattle.vx_spec.proofs.TextLaws.{each_by_test, utf8_by_each}
 use Rattle.vx_text.specs.Escapes.{IsWhole, unescaped}
 use Rattle.vx_text.specs.Folding.{lowered}
-use Rattle.purl_core.specs.Grammar.{HasSegment, Parts, IsPurlWritten, is_kind, is_kind_byte, kept_parts}
+use Rattle.vx_text.specs.Pieces.{kept_parts}
+use Rattle.purl_core.specs.Grammar.{HasSegment, Parts, IsPurlWritten, is_kind, is_kind_byte}
 use Rattle.purl_core.specs.Value.{Ascending}
 use Rattle.purl_core.specs.Spelling.{ArePieces, Distinct, IsDecodable, IsPiece, SameMap, SpellsPurl, not_empty, pieces, valued_pairs}
 use Rattle.purl_core.specs.Places.{AllText, AllWhole, IsText, AreKeyed, components, keyed_pair, path_at, pieces_of, placed_parts, placed_whole, places, subpath_at, value_in, values, version_at, without_places}

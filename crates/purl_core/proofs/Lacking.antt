@@ -4,7 +4,7 @@ use Rattle.std.specs.List.{AllByRecursion, join_with_byte}
 use Rattle.vx_text.proofs.Joins.{split_join}
 use Rattle.vx_spec.specs.Marks.{Lacks}
 use Rattle.purl_core.specs.Cuts.{last_of, NoneCounts}
-use Rattle.purl_core.specs.Grammar.{kept_parts}
+use Rattle.vx_text.specs.Pieces.{kept_parts}
 use Rattle.purl_core.specs.Spelling.{pieces}
 use Rattle.purl_core.specs.Printed.{joined_parts}
 

@@ -5,7 +5,8 @@ use Rattle.std.specs.Char.{is_ascii_alphabetic, to_ascii_lowercase}
 use Rattle.std.proofs.lemmas.Bool.{and_parts, false≢true, cases_Bool, eqb-true, ne_eqb, eq-eqb}
 use Rattle.vx_spec.proofs.MarkLaws.{one_cut}
 use Rattle.vx_spec.specs.Marks.{Lacks, marked, IsCut}
-use Rattle.purl_core.specs.Grammar.{is_kind, is_kind_byte, IsEnded, HasScheme, HasType, HasSegment, between, kept_parts, Parts, IsPurlWritten}
+use Rattle.vx_text.specs.Pieces.{kept_parts}
+use Rattle.purl_core.specs.Grammar.{is_kind, is_kind_byte, IsEnded, HasScheme, HasType, HasSegment, between, Parts, IsPurlWritten}
 use Rattle.vx_spec.proofs.EndLaws.{lacks_by, one_last_cut}
 use Rattle.purl_core.proofs.Cuts.{one_version_cut}
 

@@ -4,7 +4,8 @@ use Rattle.std.specs.List.{AllByRecursion, slice_split}
 use Rattle.std.proofs.lemmas.List.{map-append}
 use Rattle.vx_text.specs.Escapes.{IsWhole}
 use Rattle.vx_text.proofs.EscapeLaws.{not_whole}
-use Rattle.purl_core.specs.Grammar.{Parts, IsPurlWritten, WithScheme, WithType, kept_parts}
+use Rattle.vx_text.specs.Pieces.{kept_parts}
+use Rattle.purl_core.specs.Grammar.{Parts, IsPurlWritten, WithScheme, WithType}
 use Rattle.purl_core.specs.Value.{Package}
 use Rattle.purl_core.specs.Spelling.{ArePieces, Distinct, IsDecodable, IsValued, SpellsPurl, not_empty, pieces, valued_pairs}
 use Rattle.purl_core.specs.Places.{AllText, AllWhole, IsText, AreKeyed, HasKey, IsBadPieceAt, IsDuplicateAt, IsEscapeAt, IsNotTextAt, components, keyed_pair, path_at, pieces_of, placed_parts, placed_whole, places, qualifiers_at, subpath_at, value_in, values, version_at, without_places}

@@ -9,7 +9,8 @@ use Rattle.std.proofs.lemmas.Str.Ascii.{lowercase-lowercase}
 use Rattle.percent_encoding.specs.Percent.{percent_decode}
 use Rattle.percent_encoding.proofs.PercentLemmas.{length-percent_decode, All-percent_decode}
 use Rattle.vx_spec.specs.Marks.{marked}
-use Rattle.purl_core.specs.Grammar.{is_kind, is_kind_byte, kept_parts}
+use Rattle.vx_text.specs.Pieces.{kept_parts}
+use Rattle.purl_core.specs.Grammar.{is_kind, is_kind_byte}
 use Rattle.purl_core.specs.Value.{Package, IsValid, IsPart, IsPair, IsSegment, IsVersion, is_key, is_key_byte, is_dots}
 use Rattle.vx_text.specs.Folding.{lowered}
 use Rattle.purl_core.specs.Spelling.{IsDecodable, pieces, not_empty, listed_version, IsPiece, ArePieces, valued_pairs, Member, SpellsPurl}

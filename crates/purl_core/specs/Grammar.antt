@@ -3,6 +3,7 @@ use Rattle.std.specs.Prelude.{◌≡◌, ◌≢◌, ◌||◌, ◌&&◌, ◌==◌
 use Rattle.std.specs.List.{AllByRecursion, slice_split, list_all}
 use Rattle.std.specs.Char.{is_ascii_alphabetic, is_ascii_alphanumeric}
 use Rattle.vx_spec.specs.Marks.{IsLastCut, marked}
+use Rattle.vx_text.specs.Pieces.{kept_parts}
 use Rattle.vx_text.specs.Folding.{lowered}
 use Rattle.purl_core.specs.Cuts.{IsVersionCut}
 
@@ -12,9 +13,9 @@ pub record IsEnded (text body : List ℕ) (qualifiers subpath : Option (List ℕ
   pub subpath_cut : IsLastCut 35 text front subpath
   pub qualifiers_cut : IsLastCut 63 front body qualifiers
 
--- the body is 'pkg' in any case of letters, ':', which is 58, and the rest
+-- the body is 'pkg' in any case of letters, ':' and the rest
 pub record HasScheme (body scheme rest : List ℕ) : Type 0 where
-  pub joined : body ≡ scheme ++ 58 ∷ rest
+  pub joined : body ≡ scheme ++ (codes ":" ++ rest)
   pub form : lowered scheme ≡ codes "pkg"
 
 -- an ASCII letter or digit, '.', '+' or '-'
@@ -35,12 +36,6 @@ pub record HasType (rest slashes kind : List ℕ) (behind : Option (List ℕ)) :
 -- the parts between the '/'
 abbrev pub between : List ℕ → List (List ℕ)
 between path = slice_split (λ b. b == 47) path
-
--- the parts that are not empty
-abbrev pub kept_parts : List (List ℕ) → List (List ℕ)
-kept_parts [] = []
-kept_parts ([] ∷ parts) = kept_parts parts
-kept_parts ((b ∷ part) ∷ parts) = (b ∷ part) ∷ kept_parts parts
 
 -- the path has a segment that is not empty
 abbrev pub HasSegment : List ℕ → Type 0

@@ -13,7 +13,7 @@ joined_parts mark (part ∷ parts) = Some (join_with_byte mark (part ∷ parts))
 
 -- the key, '=' and the escaped value
 abbrev pub pair_text : List ℕ × List ℕ → List ℕ
-pair_text pair = pair.0 ++ 61 ∷ escaped pair.1
+pair_text pair = pair.0 ++ (codes "=" ++ escaped pair.1)
 
 -- the escaped segments and the escaped name, with '/' between them
 abbrev pub path_text : Package → List ℕ
@@ -21,7 +21,7 @@ path_text p = join_with_byte 47 (map escaped (p.namespace ++ p.name ∷ []))
 
 -- 'pkg:', the type, '/', the path, and '@' and the escaped version where there is one
 abbrev pub body_text : Package → List ℕ
-body_text p = codes "pkg:" ++ (p.kind ++ 47 ∷ (path_text p ++ marked 64 (option_map escaped p.version)))
+body_text p = codes "pkg:" ++ (p.kind ++ (codes "/" ++ path_text p ++ marked 64 (option_map escaped p.version)))
 
 -- the body; '?' and the pairs with '&' between them, and '#' and the escaped subpath, each where there are any
 abbrev pub purl_text : Package → List ℕ

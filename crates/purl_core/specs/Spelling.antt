@@ -1,9 +1,10 @@
 -- Which texts spell a package URL (ECMA-427, parsing a package URL string).
-use Rattle.std.specs.Prelude.{◌≡◌, ◌≢◌, ◌==◌, ◌++◌, ◌⊎◌, ◌↔◌, ℕ, true, not, List, [], ◌∷◌, map, filter, Option, Some, None, ⊤, IsUtf8}
+use Rattle.std.specs.Prelude.{◌≡◌, ◌≢◌, ◌==◌, ◌++◌, ◌⊎◌, ◌↔◌, ℕ, true, not, List, [], ◌∷◌, map, filter, Option, Some, None, ⊤, IsUtf8, codes}
 use Rattle.std.specs.List.{AllByRecursion, slice_split}
 use Rattle.vx_text.specs.Escapes.{IsWhole, unescaped}
 use Rattle.vx_text.specs.Folding.{lowered}
-use Rattle.purl_core.specs.Grammar.{Parts, IsPurlWritten, kept_parts}
+use Rattle.vx_text.specs.Pieces.{kept_parts}
+use Rattle.purl_core.specs.Grammar.{Parts, IsPurlWritten}
 use Rattle.purl_core.specs.Value.{Package, is_key, is_dots, Ascending}
 
 -- each '%' is an escape, and what the part stands for is text
@@ -28,7 +29,7 @@ listed_version (Some text) = text ∷ []
 
 -- the piece is a key, '=' and a value
 pub record IsPiece (piece : List ℕ) (pair : List ℕ × List ℕ) : Type 0 where
-  pub joined : piece ≡ pair.0 ++ 61 ∷ pair.1
+  pub joined : piece ≡ pair.0 ++ (codes "=" ++ pair.1)
   pub key : is_key pair.0 ≡ true
 
 -- the pieces are these pairs, in their order

@@ -3,6 +3,7 @@ use Rattle.std.proofs.Common.{◌≡◌, ◌≤◌, ◌<◌, ◌-◌, ◌++◌, 
 use Rattle.vx_scheme.specs.declared.span.Span.{Span}
 use Rattle.gem_scheme.specs.Version.{Fields}
 use Rattle.gem_scheme.specs.Writing.{normal}
+use Rattle.relation_ranges.specs.declared.comparison.Strict.TheVariants.{Single}
 use Rattle.relation_ranges.specs.declared.gem.operators.Operator.TheVariants.{Compares}
 use Rattle.relation_ranges.specs.Written as compared
 use Rattle.relation_ranges.specs.Comparison as comparison
@@ -50,7 +51,7 @@ several_text out first last spans is ends size =
     ∙ ap (λ (t : List ℕ). out ++ t) (sym (ap range_text (several first last spans is ends size) ∙ range_append signs_of normal bounds (hole_terms spans)))
 
 -- bounds are written as comparisons
-pub bounds_text : (lower upper : Option (Cut Fields)) → compared.range_text comparison.signs_of normal (bound_terms (λ c. c) lower upper) ≡ range_text (bound_terms Compares lower upper)
+pub bounds_text : (lower upper : Option (Cut Fields)) → compared.range_text (comparison.signs_of Single) normal (bound_terms (λ c. c) lower upper) ≡ range_text (bound_terms Compares lower upper)
 bounds_text None None = refl
 bounds_text None (Some d) = refl
 bounds_text (Some c) None = refl

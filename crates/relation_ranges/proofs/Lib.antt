@@ -1,4 +1,4 @@
-mod BackTexts
+mod DebTexts
 mod GemTexts
 mod RpmTexts
 mod TermTexts

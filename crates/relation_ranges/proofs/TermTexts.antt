@@ -1,15 +1,16 @@
 -- The text of terms, term by term, over any table.
-use Rattle.std.proofs.Common.{◌≡◌, ◌++◌, ℕ, Bool, true, false, List, [], ◌∷◌, refl, sym, ap, ◌∙◌, append-nil, append_assoc}
+use Rattle.std.proofs.Common.{◌≡◌, ◌++◌, ℕ, true, false, List, [], ◌∷◌, refl, sym, ap, ◌∙◌, append-nil, append_assoc}
 use Rattle.relation_ranges.specs.declared.relations.Relation.{Relation}
 use Rattle.relation_ranges.specs.Written.{range_text, term_text}
-use Rattle.relation_ranges.specs.Steps.Terms.{appended, comma, is_any}
+use Rattle.relation_ranges.specs.Steps.Terms.{appended, is_any}
 
 module _ {O V : Type 0} (signs_of : O → List ℕ) (normal : V → List ℕ) where
   behind_first : (term : List (Relation O V)) (terms : List (List (Relation O V))) → term_text signs_of normal term ++ appended signs_of normal true terms ≡ range_text signs_of normal (term ∷ terms)
   behind_first term [] = append-nil (term_text signs_of normal term)
   behind_first term (next ∷ terms) = ap (λ (rest : List ℕ). term_text signs_of normal term ++ 44 ∷ 32 ∷ rest) (behind_first next terms)
 
-  appended_is : (terms : List (List (Relation O V))) → appended signs_of normal false terms ≡ range_text signs_of normal terms
+  -- where no term stands before them, they are the text of a range
+  pub appended_is : (terms : List (List (Relation O V))) → appended signs_of normal false terms ≡ range_text signs_of normal terms
   appended_is [] = refl
   appended_is (term ∷ terms) = behind_first term terms
 
@@ -20,10 +21,3 @@ module _ {O V : Type 0} (signs_of : O → List ℕ) (normal : V → List ℕ) wh
   range_append (term ∷ next ∷ terms) more =
       ap (λ (rest : List ℕ). term_text signs_of normal term ++ 44 ∷ 32 ∷ rest) (range_append (next ∷ terms) more)
       ∙ sym (append_assoc (term_text signs_of normal term) (44 ∷ 32 ∷ range_text signs_of normal (next ∷ terms)) (appended signs_of normal true more))
-
-  -- one term more
-  pub one_more : (out start : List ℕ) (some : Bool) (term : List (Relation O V)) (terms : List (List (Relation O V))) → out ++ appended signs_of normal some (term ∷ terms) ≡ start
-      → ((out ++ comma some) ++ term_text signs_of normal term) ++ appended signs_of normal true terms ≡ start
-  one_more out start some term terms e =
-      append_assoc (out ++ comma some) (term_text signs_of normal term) (appended signs_of normal true terms)
-      ∙ append_assoc out (comma some) (term_text signs_of normal term ++ appended signs_of normal true terms) ∙ e

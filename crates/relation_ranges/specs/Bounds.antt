@@ -1,4 +1,4 @@
--- The terms of a lower and an upper bound, as RubyGems and RPM print them. `order` is a scheme's order, and `operator_of` the
+-- The terms of a lower and an upper bound, as RubyGems, RPM and Debian print them. `order` is a scheme's order, and `operator_of` the
 -- language's operator for a comparison.
 use Rattle.std.specs.Prelude.{ℕ, Bool, true, false, List, [], ◌∷◌, ◌++◌, if◌then◌else◌, Option, Some, None}
 use Rattle.std.specs.declared.cmp.Ordering.{Ordering}
@@ -40,14 +40,3 @@ module _ {O V : Type 0} (operator_of : Comparison → O) where
       if is_point order lower upper then (record { operator = operator_of Equal; version = lower.version } ∷ []) ∷ [] else bound_terms (Some lower) (Some upper)
   span_terms order (Some lower) None = bound_terms (Some lower) None
   span_terms order None upper = bound_terms None upper
-
--- a gap from before to after one order class
-abbrev pub is_hole : {V : Type 0} → (V → V → Ordering) → Option (Cut V) → Option (Cut V) → Bool
-is_hole order (Some upper) (Some lower) = is_point order upper lower
-is_hole order (Some upper) None = false
-is_hole order None lower = false
-
--- the mark of a cut, 0 where there is none
-abbrev pub mark_of : {V : Type 0} → Option (Cut V) → ℕ
-mark_of None = 0
-mark_of (Some cut) = cut.mark

@@ -1,6 +1,9 @@
 pub mod Reading
 pub mod Written
+pub mod Comparison
 pub mod Compared
+pub mod Bounds
+pub mod Back
 pub mod Range
 pub mod NoEnd
 pub mod DebTable

@@ -4,6 +4,7 @@
 use Rattle.std.specs.Prelude.{◌≡◌, ◌+◌, ◌-◌, ℕ, Bool, List, length, Option, Some}
 use Rattle.vx_spec.specs.Runs.{is_blank, run, past}
 use Rattle.vx_range.specs.Lists.{Plain, groups_of}
+use Rattle.vx_range.specs.Reading as ranges
 use Rattle.relation_ranges.specs.declared.relations.Relation.{Relation}
 
 -- a text is a comma list, whose pieces are parted at a bar, where the language has one
@@ -28,3 +29,7 @@ pub record IsPast {O V : Type 0} (is_sign : ℕ → Bool) (HasSigns : O → List
   pub relation : Relation O V
   pub reads : ReadsAs is_sign HasSigns Spells piece relation
   pub first : first_past (version_place is_sign piece) (version_text is_sign piece.bytes) ≡ Some at
+
+-- The text reads as these terms of relations, with numerals of any length.
+abbrev pub Reads : {O V : Type 0} → Option ℕ → (ℕ → Bool) → (O → List ℕ → Type 0) → (List ℕ → V → Type 0) → List ℕ → List (List (Relation O V)) → Type 0
+Reads bar is_sign HasSigns Spells = ranges.Reads (IsCut bar) (ReadsAs is_sign HasSigns Spells)

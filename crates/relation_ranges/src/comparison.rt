@@ -1,13 +1,13 @@
 ghost use Rattle.std.specs.Prelude.{◌≡◌, ◌+◌, ◌++◌, MatchOption, OnOk, length};
 ghost use Rattle.vx_scheme.specs.Cuts.{cuts_of};
-ghost use Rattle.relation_ranges.specs.Comparison.{signs_of, spans_of};
+ghost use Rattle.relation_ranges.specs.Comparison.{HasSigns, signs_of, spans_of};
 
 use std::alloc::Global;
 use vx_range::{push_above, push_below, push_from, push_point, push_up_to};
 use vx_scheme::{NoMemory, Scheme, Spans};
 use vx_text::ByteClass;
 
-/// An operator that compares with one version, as RubyGems and RPM write it.
+/// An operator that compares with one version. The signs are those of `Strict::Single`.
 #[derive(Debug, Clone, Copy, PartialEq, Eq)]
 pub enum Comparison {
     /// `<`
@@ -22,7 +22,16 @@ pub enum Comparison {
     Greater,
 }
 
-/// The bytes `<`, `=` and `>`, of which comparisons and Debian's operators are written.
+/// How the two strict comparisons are written.
+#[derive(Debug, Clone, Copy, PartialEq, Eq)]
+pub enum Strict {
+    /// `<` and `>`, as RubyGems and RPM have them.
+    Single,
+    /// `<<` and `>>`, as Debian has them.
+    Doubled,
+}
+
+/// The bytes `<`, `=` and `>`, of which comparisons are written.
 pub struct RelationSigns;
 
 impl ByteClass for RelationSigns {
@@ -36,31 +45,33 @@ impl ByteClass for RelationSigns {
 }
 
 /// The comparison that is written so; `None` exactly where none is.
-pub(crate) fn comparison_of(signs: &[u8]) -> Option<Comparison>
+pub(crate) fn comparison_of(strict: Strict, signs: &[u8]) -> Option<Comparison>
     ensures { MatchOption result
-        ((comparison : Comparison) → ¬ (signs.now ≡ signs_of comparison))
-        (λ comparison. signs.now ≡ signs_of comparison) }
+        ((comparison : Comparison) → ¬ (HasSigns strict comparison signs.now))
+        (λ comparison. HasSigns strict comparison signs.now) }
 {
-    match signs {
-        b"<" => Some(Comparison::Less),
-        b"<=" => Some(Comparison::LessOrEqual),
-        b"=" => Some(Comparison::Equal),
-        b">=" => Some(Comparison::GreaterOrEqual),
-        b">" => Some(Comparison::Greater),
+    match (strict, signs) {
+        (_, b"<=") => Some(Comparison::LessOrEqual),
+        (_, b"=") => Some(Comparison::Equal),
+        (_, b">=") => Some(Comparison::GreaterOrEqual),
+        (Strict::Single, b"<") | (Strict::Doubled, b"<<") => Some(Comparison::Less),
+        (Strict::Single, b">") | (Strict::Doubled, b">>") => Some(Comparison::Greater),
         _ => None,
     }
 }
 
 /// How the comparison is written.
-pub(crate) fn signs(comparison: Comparison) -> &'static str
-    ensures { result.now ≡ signs_of comparison }
+pub(crate) fn signs(strict: Strict, comparison: Comparison) -> &'static str
+    ensures { result.now ≡ signs_of strict comparison }
 {
-    match comparison {
-        Comparison::Less => "<",
-        Comparison::LessOrEqual => "<=",
-        Comparison::Equal => "=",
-        Comparison::GreaterOrEqual => ">=",
-        Comparison::Greater => ">",
+    match (strict, comparison) {
+        (_, Comparison::LessOrEqual) => "<=",
+        (_, Comparison::Equal) => "=",
+        (_, Comparison::GreaterOrEqual) => ">=",
+        (Strict::Single, Comparison::Less) => "<",
+        (Strict::Single, Comparison::Greater) => ">",
+        (Strict::Doubled, Comparison::Less) => "<<",
+        (Strict::Doubled, Comparison::Greater) => ">>",
     }
 }
 

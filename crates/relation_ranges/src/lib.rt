@@ -14,11 +14,8 @@ mod sizes;
 #[cfg(test)]
 mod tests;
 
-pub use comparison::{Comparison, RelationSigns};
-pub use deb::{
-    DebRange, Operator as DebOperator, deb_one_answer, deb_relation_is_its_span,
-    deb_term_is_its_spans,
-};
+pub use comparison::{Comparison, RelationSigns, Strict};
+pub use deb::{DebRange, deb_one_answer, deb_relation_is_its_span, deb_term_is_its_spans};
 pub use gem::{
     GemRange, Operator as GemOperator, RequirementSigns, gem_one_answer,
     gem_requirement_is_its_spans,

@@ -1,12 +1,13 @@
-ghost use Rattle.std.specs.Prelude.{◌≡◌, ◌+◌, ◌++◌, ◌<◌, ◌^◌, ◌↔◌, ℕ, List, None, Result, Ok, IfOk, IfErr, IsTrue, MatchOption, length};
+ghost use Rattle.std.specs.Prelude.{◌≡◌, ◌+◌, ◌++◌, ◌↔◌, ℕ, List, Result, Ok, IfOk, IfErr, IsTrue, MatchOption, length};
 ghost use Rattle.vx_scheme.specs.Domains.{InDomain};
 ghost use Rattle.vx_scheme.specs.Native.{BackRefused, BackLaws, IsSpans};
 ghost use Rattle.vx_range.specs.declared.making.Outcome.TheVariants as made;
 ghost use Rattle.relation_ranges.specs.Range.{IsRange, In};
 
+use crate::range::RelationRange;
 use std::alloc::Global;
-use vx_range::Outcome;
-use vx_scheme::{BackFault, Domain, NoMemory, Scheme, Spans, Text};
+use vx_range::{Outcome, PlacedVersions};
+use vx_scheme::{BackFault, Domain, NoMemory, Spans, Text};
 use vx_text::ByteClass;
 
 /// An operator and its version.
@@ -20,9 +21,8 @@ pub struct Relation<O, V> {
 
 /// The table of a language of relations, over its versions. The text of a range is a comma list, whose pieces may have
 /// pieces of their own; each of those is an operator, blanks or none, and a version.
-pub trait Relations: Scheme {
+pub trait Relations: PlacedVersions<RelationRange<Self>> {
     ghost use Rattle.std.specs.Prelude.{Bool, Option};
-    ghost use Rattle.std.specs.Str.{IsUtf8};
     ghost use Rattle.vx_scheme.specs.declared.domain.Domain.{Domain};
     ghost use Rattle.vx_scheme.specs.declared.range_fault.EndKind.{EndKind};
     ghost use Rattle.vx_scheme.specs.declared.span.Span.{Span};
@@ -47,9 +47,6 @@ pub trait Relations: Scheme {
 
     /// The operator is written so, or is left out where nothing is.
     ghost HasSigns: { Self.Operator → List ℕ → Type 0 };
-
-    /// Where in a version's text that begins at this place the first numeral past the limit begins.
-    ghost first_past: { ℕ → List ℕ → Option ℕ };
 
     /// The spans of an operator and its version in the domain, whose first cut has this mark.
     ghost spans: { Domain → ℕ → Self.Operator → Self.Version → List (Span Self.Version) };
@@ -85,11 +82,6 @@ pub trait Relations: Scheme {
             ((operator : Self.Operator) → ¬ (HasSigns operator signs.now))
             (λ operator. HasSigns operator signs.now) };
 
-    /// Where in a version's text that begins at this place the first numeral past the limit begins. It takes no memory.
-    fn first_past(text: &[u8], at: usize) -> Option<usize>
-        requires { at + length text.now < 2 ^ 64 }
-        ensures { result ≡ first_past at text.now };
-
     /// Appends the spans of an operator and its version in the domain, if they make any, and says what becomes of them.
     /// The marks run on from the given one.
     fn push_spans(
@@ -107,13 +99,6 @@ pub trait Relations: Scheme {
 
     /// No signs are those of two operators.
     ghost one_operator: { (signs : List ℕ) (a b : Self.Operator) → HasSigns a signs → HasSigns b signs → a ≡ b };
-
-    /// Texts of versions are UTF-8.
-    ghost utf8: { (text : List ℕ) (v : Self.Version) → Self.Spells text v → IsUtf8 text };
-
-    /// A version is within the limit exactly where no numeral of its text is past it.
-    ghost limits: { (text : List ℕ) (v : Self.Version) (at : ℕ) →
-        Self.Spells text v → Self.IsWithin v ↔ (first_past at text ≡ None) };
 
     /// What they make holds the versions of the domain that the operator holds of.
     ghost agrees: { (domain : Domain) (mark : ℕ) (operator : Self.Operator) (bound v : Self.Version) →

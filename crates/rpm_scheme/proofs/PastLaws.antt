@@ -1,15 +1,18 @@
 -- A version is within the limit exactly where no numeral of its text is past it.
-use Rattle.std.proofs.Common.{◌≡◌, ◌↔◌, ℕ, List, refl, sym, subst, Option, Some, None}
+use Rattle.std.proofs.Common.{◌≡◌, ◌↔◌, ℕ, List, refl, Option, Some, None}
 use Rattle.std.specs.List.{AllByRecursion}
 use Rattle.vx_spec.specs.Marks.{marked}
 use Rattle.vx_order.proofs.ScanLimits.{none_tokens, tokens_within}
 use Rattle.vx_text.specs.Past.{first_past, NonePast}
-use Rattle.vx_text.proofs.PastLaws.{first_none, no_digit, none_past}
-use Rattle.rpm_scheme.specs.Version.{Fields, IsWithin, LetterIsWithin, ReleaseIsWithin, count_letter, letters_of, sign_letters, word_letter}
-use Rattle.vx_text.specs.EpochParts.{Parts, hyphen, whole}
+use Rattle.vx_text.proofs.PastLaws.{no_digit}
+use Rattle.vx_order.specs.Letters.{LetterIsWithin}
+use Rattle.rpm_scheme.specs.Version.{Fields, IsWithin, ReleaseIsWithin, count_letter, letters_of, sign_letters, word_letter}
+use Rattle.vx_spec.specs.Signs.{hyphen}
+use Rattle.vx_text.specs.EpochParts.{Parts, whole}
 use Rattle.vx_text.proofs.EpochLaws.{none_whole, whole_within}
+use Rattle.vx_text.proofs.EpochVersionLaws as by_parts
 use Rattle.rpm_scheme.specs.Laws.Within.{sign_within, word_within}
-use Rattle.rpm_scheme.specs.Spelling.{AreVersionParts, Spells, release_letters, version_of}
+use Rattle.rpm_scheme.specs.Spelling.{AreVersionParts, Spells, is_part, release_letters, version_of}
 
 -- ---- versions without a numeral past the limit are within it
 
@@ -25,9 +28,6 @@ parts_within text p form none =
     let rest = whole_within p form.epoch none in
     (rest.0, part_within p.main rest.1, release_within p.last rest.2)
 
-pub version_within : (text : List ℕ) (v : Fields) → Spells text v → NonePast text → IsWithin v
-version_within text v s none = subst IsWithin (sym s.values) (parts_within text s.parts s.form (subst NonePast s.joined none))
-
 -- ---- and the other way round
 
 none_part : (part : List ℕ) → AllByRecursion LetterIsWithin (letters_of part) → NonePast part
@@ -40,9 +40,6 @@ none_marked (Some part) all = (no_digit hyphen part refl, none_part part all)
 parts_none : (text : List ℕ) (p : Parts) → AreVersionParts p → IsWithin (version_of text p) → NonePast (whole p)
 parts_none text p form fits = none_whole p form.epoch fits.0 (none_part p.main fits.1) (none_marked p.last fits.2)
 
-pub version_none : (text : List ℕ) (v : Fields) → Spells text v → IsWithin v → NonePast text
-version_none text v s fits = subst NonePast (sym s.joined) (parts_none text s.parts s.form (subst IsWithin s.values fits))
-
 -- a version is within the limit exactly where none of its numerals is past it
 pub limits_agree : (text : List ℕ) (v : Fields) (at : ℕ) → Spells text v → IsWithin v ↔ (first_past at text ≡ None)
-limits_agree text v at s = (λ fits. first_none at text (version_none text v s fits), λ none. version_within text v s (none_past at text none))
+limits_agree = by_parts.limits_agree is_part is_part version_of IsWithin parts_within parts_none

@@ -8,7 +8,8 @@ use Rattle.vx_spec.proofs.RunLaws.{one_run}
 use Rattle.vx_spec.proofs.TextLaws.{test_by_each}
 use Rattle.std.proofs.lemmas.List.{take_at}
 use Rattle.std.proofs.lemmas.Bool.{ne_eqb, not_from_false}
-use Rattle.vx_text.specs.EpochParts.{Parts, colon, hyphen, is_epoch, whole}
+use Rattle.vx_spec.specs.Signs.{colon, hyphen}
+use Rattle.vx_text.specs.EpochParts.{Parts, is_epoch, whole}
 use Rattle.vx_text.proofs.EpochLaws.{epoch_lacks}
 use Rattle.rpm_scheme.specs.Version.{Fields, is_no_hyphen, front_text, without_release}
 use Rattle.rpm_scheme.specs.Spelling.{AreVersionParts, IsVersion}

@@ -1,24 +1,13 @@
 -- The text of a version after rpm-version(7): the text is its parts, joined by their signs: an epoch, the version, which is the
 -- main part, and the release, which is the last; each part has its form; and the version has their values.
-use Rattle.std.specs.Prelude.{◌≡◌, ℕ, ◌&&◌, ◌||◌, ◌==◌, Bool, List, Option, Some, None}
+use Rattle.std.specs.Prelude.{ℕ, ◌&&◌, ◌||◌, ◌==◌, Bool, List, Option, Some, None}
 use Rattle.std.specs.Char.{is_ascii_alphanumeric}
 use Rattle.std.specs.List.{list_all}
 use Rattle.vx_spec.specs.Runs.{begins}
-use Rattle.vx_text.specs.EpochParts.{HaveForms, Parts, epoch_value, whole}
+use Rattle.vx_spec.specs.Signs.{caret, dot, plus, tilde, underscore}
+use Rattle.vx_text.specs.EpochParts.{HaveForms, Parts, SpellsByParts, epoch_value}
 use Rattle.vx_order.specs.declared.letter.Letter.{Letter}
-use Rattle.rpm_scheme.specs.Version.{Fields, letters_of, tilde, caret}
-
--- the byte '.'
-abbrev pub dot : ℕ
-dot = 46
-
--- the byte '_'
-abbrev pub underscore : ℕ
-underscore = 95
-
--- the byte '+'
-abbrev pub plus : ℕ
-plus = 43
+use Rattle.rpm_scheme.specs.Version.{Fields, letters_of}
 
 -- a letter, a digit, '.', '_', '+', '~' or '^'
 abbrev pub is_part_byte : ℕ → Bool
@@ -42,11 +31,8 @@ abbrev pub version_of : List ℕ → Parts → Fields
 version_of text p = record { text = text; epoch = epoch_value p.epoch; version = letters_of p.main; release = release_letters p.last }
 
 -- The text spells the version, with numerals of any length.
-pub record Spells (text : List ℕ) (v : Fields) : Type 0 where
-  pub parts : Parts
-  pub joined : text ≡ whole parts
-  pub form : AreVersionParts parts
-  pub values : v ≡ version_of text parts
+abbrev pub Spells : List ℕ → Fields → Type 0
+Spells = SpellsByParts is_part is_part version_of
 
 -- The fields are a version's: its text spells it.
 abbrev pub IsVersion : Fields → Type 0

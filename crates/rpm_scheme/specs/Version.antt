@@ -3,7 +3,8 @@
 use Rattle.std.specs.Prelude.{◌≡◌, ◌≢◌, ℕ, ◌==◌, ◌<◌, ◌^◌, not, Bool, if◌then◌else◌, List, [], ◌∷◌, Option, Some, None}
 use Rattle.std.specs.List.{AllByRecursion}
 use Rattle.vx_spec.specs.Runs.{run}
-use Rattle.vx_text.specs.EpochParts.{hyphen}
+use Rattle.vx_spec.specs.Signs.{caret, hyphen, tilde}
+use Rattle.vx_order.specs.Letters.{LetterIsWithin}
 use Rattle.vx_order.specs.declared.letter.Letter.{Letter}
 use Rattle.vx_order.specs.Scanning.{behind_token, scanned, token_entries}
 
@@ -13,14 +14,6 @@ pub record Fields : Type 0 where
   pub epoch : ℕ
   pub version : List Letter
   pub release : Option (List Letter)
-
--- the byte '~'
-abbrev pub tilde : ℕ
-tilde = 126
-
--- the byte '^'
-abbrev pub caret : ℕ
-caret = 94
 
 -- The ranks of letters, from the lowest: '~', the end of a list, '^', a run of ASCII letters, a number.
 abbrev pub tilde_rank : ℕ
@@ -80,10 +73,6 @@ HasRelease v = v.release ≢ None
 
 abbrev pub IsWithoutRelease : Fields → Type 0
 IsWithoutRelease v = v.release ≡ None
-
--- a letter's number is within the limit of 128 bits
-abbrev pub LetterIsWithin : Letter → Type 0
-LetterIsWithin letter = letter.number < 2 ^ 128
 
 -- the letters of a release that is left out are within the limit
 abbrev pub ReleaseIsWithin : Option (List Letter) → Type 0

@@ -1,7 +1,8 @@
 ghost use Rattle.std.specs.List.{AllByRecursion};
 ghost use Rattle.std.specs.Prelude.{[], ◌++◌, ◌∷◌, ◌≡◌, OnOk};
 ghost use Rattle.vx_scheme.specs.Values.{Gives};
-ghost use Rattle.rpm_scheme.specs.Version.{LetterIsWithin, letters_of, sign_letter};
+ghost use Rattle.vx_order.specs.Letters.{LetterIsWithin};
+ghost use Rattle.rpm_scheme.specs.Version.{letters_of, sign_letter};
 
 use std::alloc::Global;
 use vx_order::{Letter, Letters, Tokens, scan_tokens};
@@ -21,7 +22,8 @@ struct TokenLetters;
 
 impl Tokens for TokenLetters {
     ghost use Rattle.rpm_scheme.specs.Laws.Within.{sign_within, word_within};
-    ghost use Rattle.rpm_scheme.specs.Version.{LetterIsWithin, count_letter, sign_letters, word_letter};
+    ghost use Rattle.vx_order.specs.Letters.{LetterIsWithin};
+    ghost use Rattle.rpm_scheme.specs.Version.{count_letter, sign_letters, word_letter};
 
     type Entry = Letter;
 

@@ -5,27 +5,33 @@ ghost use Rattle.std.specs.Option.{option_copied};
 ghost use Rattle.vx_spec.specs.Runs.{begins};
 ghost use Rattle.vx_scheme.specs.Scheme.{Refuses};
 ghost use Rattle.vx_scheme.specs.Values.{Gives};
-ghost use Rattle.vx_text.specs.EpochParts.{IsMadeOf, parts};
 ghost use Rattle.rpm_scheme.specs.Version.{IsWithin, ReleaseIsWithin};
-ghost use Rattle.rpm_scheme.specs.Spelling.{IsVersionText, Spells, is_part, is_part_byte, release_letters, version_of};
+ghost use Rattle.rpm_scheme.specs.Spelling.{IsVersionText, Spells, is_part, is_part_byte, release_letters};
 
 use crate::letters::letters;
 use crate::version::RpmVersion;
 use std::alloc::Global;
 use vx_order::Letters;
 use vx_scheme::{Text, VersionFault};
-use vx_text::{EpochParts, PartForms, epoch_number, epoch_parts, has_epoch_parts};
+use vx_text::{EpochParts, EpochVersions, epoch_number, epoch_version, is_epoch_version};
 
-// The forms of the version, which is the main part, and of the release, which is the last.
-struct Forms;
+// Versions by their parts: the version is the main part, and the release the last.
+struct ByParts;
 
-impl PartForms for Forms {
-    ghost use Rattle.rpm_scheme.specs.Spelling.{is_part};
+impl EpochVersions for ByParts {
+    ghost use Rattle.rpm_scheme.specs.Version.{IsWithin};
+    ghost use Rattle.rpm_scheme.specs.Spelling.{is_part, version_of};
     ghost use Rattle.rpm_scheme.specs.Laws.Unique.{release_lacks, version_lacks};
+
+    type Version = RpmVersion;
 
     ghost main_form = { is_part };
 
     ghost last_form = { is_part };
+
+    ghost version_of = { version_of };
+
+    ghost IsWithin = { IsWithin };
 
     ghost main_lacks = { version_lacks };
 
@@ -38,25 +44,34 @@ impl PartForms for Forms {
     fn is_last(part: &[u8]) -> bool {
         is_part(part)
     }
+
+    fn of_parts(alloc: Global, text: &str, found: &EpochParts) -> Result<RpmVersion, VersionFault> {
+        let epoch = epoch_number(found.epoch)?;
+        let version = letters(alloc, found.main)?;
+        let release = release_letters(alloc, found.last)?;
+        let text = Text::copy_of(alloc, text)?;
+        Ok(RpmVersion {
+            text,
+            epoch,
+            version,
+            release,
+        })
+    }
 }
 
-/// The version that the text spells. The forms of the parts are tested before a value is made, so that `NotAVersion`
-/// comes before `Numeral`.
+/// The version that the text spells.
 pub(crate) fn read(alloc: Global, text: &str) -> Result<RpmVersion, VersionFault>
     ensures ok { IfOk result (λ v. Spells text.now v × IsWithin v) }
     ensures err { IfErr result (Refuses Spells IsWithin text.now) }
 {
-    let Some(found) = epoch_parts::<Forms>(text) else {
-        return Err(VersionFault::NotAVersion);
-    };
-    version_of_parts(alloc, text, &found)
+    epoch_version::<ByParts>(alloc, text)
 }
 
 /// Whether the text spells a version, with numerals of any length. It takes no memory.
 pub fn is_version(text: &str) -> bool
     ensures { IsTrue result ↔ IsVersionText text.now }
 {
-    has_epoch_parts::<Forms>(text)
+    is_epoch_version::<ByParts>(text)
 }
 
 fn is_part(part: &[u8]) -> bool
@@ -84,28 +99,6 @@ fn is_part_byte(byte: u8) -> bool
     ensures { result ≡ is_part_byte byte }
 {
     byte.is_ascii_alphanumeric() || matches!(byte, b'.' | b'_' | b'+' | b'~' | b'^')
-}
-
-/// The version that the parts stand for. `Numeral` comes exactly where one of their numerals passes 2^128-1, unless
-/// memory ends before.
-fn version_of_parts(
-    alloc: Global,
-    text: &str,
-    found: &EpochParts,
-) -> Result<RpmVersion, VersionFault>
-    requires { IsMadeOf is_part is_part text.now (parts found.now) }
-    ensures { Gives IsWithin result (version_of text.now (parts found.now)) }
-{
-    let epoch = epoch_number(found.epoch)?;
-    let version = letters(alloc, found.main)?;
-    let release = release_letters(alloc, found.last)?;
-    let text = Text::copy_of(alloc, text)?;
-    Ok(RpmVersion {
-        text,
-        epoch,
-        version,
-        release,
-    })
 }
 
 fn release_letters(alloc: Global, part: Option<&[u8]>) -> Result<Option<Letters>, VersionFault>

@@ -28,6 +28,6 @@ with_texts text (Purl purl) = Purl (text purl)
 with_texts text (Same first second) = Same (text first) (text second)
 with_texts text (Check purl vers) = Check (text purl) (text vers)
 
-abbrev pub seen : {F : Type 0} → (F → List ℕ) → Option (Request F) → Option (Request (List ℕ))
-seen text None = None
-seen text (Some request) = Some (with_texts text request)
+abbrev pub request_texts : {F : Type 0} → (F → List ℕ) → Option (Request F) → Option (Request (List ℕ))
+request_texts text None = None
+request_texts text (Some request) = Some (with_texts text request)

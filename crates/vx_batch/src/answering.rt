@@ -17,7 +17,7 @@ use vx_scheme::NoMemory;
 pub fn too_long(alloc: Global) -> Result<Answer, NoMemory>
     ensures { IfOk result (λ a. IsTooLong a.ok a.text) }
 {
-    let answer = answer_of(alloc, &Reply::Fault(LineFault::TooLong))?;
+    let answer = answer_of(alloc, Reply::Fault(LineFault::TooLong))?;
     Ok(answer)
 }
 
@@ -26,7 +26,7 @@ pub fn answer_to_request(alloc: Global, request: &Request<&str>) -> Result<Answe
     ensures { IfOk result (λ a. AnswersRequest (with_texts (λ field. field.now) request.now) a.ok a.text) }
 {
     let reply = request_reply(alloc, request)?;
-    let answer = answer_of(alloc, &reply)?;
+    let answer = answer_of(alloc, reply)?;
     Ok(answer)
 }
 
@@ -35,7 +35,7 @@ pub fn answer_to_row(alloc: Global, row: &Row) -> Result<Answer, NoMemory>
     ensures { IfOk result (λ a. (fields : List (List ℕ)) → IsRow fields row.now → IsAnswer fields a.ok a.text) }
 {
     let reply = row_reply(alloc, row)?;
-    let answer = answer_of(alloc, &reply)?;
+    let answer = answer_of(alloc, reply)?;
     Ok(answer)
 }
 
@@ -52,6 +52,6 @@ pub fn answer_to_line(alloc: Global, line: &[u8]) -> Result<Answer, NoMemory>
     ensures { IfOk result (λ a. IsLineAnswer MOST_BYTES line.now a.ok a.text) }
 {
     let reply = line_reply(alloc, line)?;
-    let answer = answer_of(alloc, &reply)?;
+    let answer = answer_of(alloc, reply)?;
     Ok(answer)
 }

@@ -13,9 +13,6 @@ pub fn check_reply(alloc: Global, purl: &str, vers: &str) -> Result<Reply, NoMem
 {
     match check(alloc, purl, vers) {
         Ok(held) => Ok(Reply::Decided(held)),
-        Err(refusal) => {
-            let reply = refuse_check(refusal)?;
-            Ok(reply)
-        }
+        Err(refusal) => Ok(refuse_check(refusal)?),
     }
 }

@@ -1,4 +1,4 @@
-ghost use Rattle.std.specs.Prelude.{◌≡◌, ◌++◌, IfOk, OnOk, codes};
+ghost use Rattle.std.specs.Prelude.{◌≡◌, ◌++◌, IfOk, OnOk, codes, true};
 ghost use Rattle.vx_spec.specs.Numerals.{numeral_text};
 ghost use Rattle.vx_batch.specs.Answers.{refusal_line, purl_line};
 ghost use Rattle.vx_batch.specs.Steps.Replies.{fault_line, is_accepted, reply_line};
@@ -13,18 +13,29 @@ use vx_translate::Refusal;
 // Room for the line of a decision, or of a refusal with its place.
 const MOST_OF_A_REFUSAL: usize = 64;
 
-// How many bytes stand around a text that was found: `ok`, a tab and the line feed.
-const AROUND_A_TEXT: usize = 4;
+/// The answer that a line has this reply. A text that was found becomes its answer line where it lies.
+pub fn answer_of(alloc: Global, reply: Reply) -> Result<Answer, NoMemory>
+    ensures { IfOk result (λ a. (a.ok ≡ is_accepted reply) × (a.text ≡ reply_line reply)) }
+{
+    match reply {
+        Reply::Found(text) => found_answer(text),
+        other => short_answer(alloc, &other),
+    }
+}
 
-/// The answer that a line has this reply, with room for its line feed.
-pub fn answer_of(alloc: Global, reply: &Reply) -> Result<Answer, NoMemory>
+// The answer that this text was found.
+fn found_answer(mut text: Text) -> Result<Answer, NoMemory>
+    ensures { IfOk result (λ a. (a.ok ≡ true) × (a.text ≡ codes "ok\t" ++ text)) }
+{
+    text.push_front("ok\t")?;
+    Ok(Answer { ok: true, text })
+}
+
+// The answer that a line has this reply, in a text of its own, with room for a decision or a refusal.
+fn short_answer(alloc: Global, reply: &Reply) -> Result<Answer, NoMemory>
     ensures { IfOk result (λ a. (a.ok ≡ is_accepted reply.now) × (a.text ≡ reply_line reply.now)) }
 {
-    let room = match reply {
-        Reply::Found(found) => found.len().saturating_add(AROUND_A_TEXT),
-        _ => MOST_OF_A_REFUSAL,
-    };
-    let mut text = Text::with_room(alloc, room)?;
+    let mut text = Text::with_room(alloc, MOST_OF_A_REFUSAL)?;
     push_reply(&mut text, reply)?;
     Ok(Answer {
         ok: reply.is_accepted(),

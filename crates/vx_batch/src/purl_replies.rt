@@ -13,10 +13,7 @@ pub fn purl_reply(alloc: Global, text: &str) -> Result<Reply, NoMemory>
 {
     match canonical(alloc, text) {
         Ok(canonical) => Ok(Reply::Found(canonical)),
-        Err(fault) => {
-            let reply = refuse_purl(fault)?;
-            Ok(reply)
-        }
+        Err(fault) => Ok(refuse_purl(fault)?),
     }
 }
 
@@ -26,9 +23,6 @@ pub fn same_reply(alloc: Global, a: &str, b: &str) -> Result<Reply, NoMemory>
 {
     match same(alloc, a, b) {
         Ok(told) => Ok(Reply::Decided(told)),
-        Err(fault) => {
-            let reply = refuse_purl(fault)?;
-            Ok(reply)
-        }
+        Err(fault) => Ok(refuse_purl(fault)?),
     }
 }

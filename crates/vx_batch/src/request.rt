@@ -1,5 +1,5 @@
 ghost use Rattle.std.specs.Prelude.{◌∷◌, [], List, ℕ};
-ghost use Rattle.vx_batch.specs.Requests.{IsAsked, seen};
+ghost use Rattle.vx_batch.specs.Requests.{IsAsked, request_texts};
 ghost use Rattle.vx_batch.specs.Rows.{IsRow};
 
 use crate::row::Row;
@@ -59,7 +59,7 @@ pub enum Request<T> {
 /// The request that a row of fields makes: its first field is the command's name, and as many stand behind it as the
 /// command takes. `None` comes exactly where there is none. It takes no memory.
 pub fn request_of<'a>(row: &Row<'a>) -> Option<Request<&'a str>>
-    ensures { (fields : List (List ℕ)) → IsRow fields row.now → IsAsked fields (seen (λ field. field.now) result) }
+    ensures { (fields : List (List ℕ)) → IsRow fields row.now → IsAsked fields (request_texts (λ field. field.now) result) }
 {
     match *row {
         Row::Two(name, field) => request_of_two(name, field),
@@ -72,7 +72,7 @@ pub fn request_of<'a>(row: &Row<'a>) -> Option<Request<&'a str>>
 
 // The request of a command with one field.
 fn request_of_two<'a>(name: &str, field: &'a str) -> Option<Request<&'a str>>
-    ensures { IsAsked (name.now ∷ field.now ∷ []) (seen (λ field. field.now) result) }
+    ensures { IsAsked (name.now ∷ field.now ∷ []) (request_texts (λ field. field.now) result) }
 {
     match name {
         "canon" => Some(Request::Canon { vers: field }),
@@ -83,7 +83,7 @@ fn request_of_two<'a>(name: &str, field: &'a str) -> Option<Request<&'a str>>
 
 // The request of a command with two fields.
 fn request_of_three<'a>(name: &str, first: &'a str, second: &'a str) -> Option<Request<&'a str>>
-    ensures { IsAsked (name.now ∷ first.now ∷ second.now ∷ []) (seen (λ field. field.now) result) }
+    ensures { IsAsked (name.now ∷ first.now ∷ second.now ∷ []) (request_texts (λ field. field.now) result) }
 {
     match name {
         "from-vers" => Some(Request::FromVers {
@@ -110,7 +110,7 @@ fn request_of_four<'a>(
     second: &'a str,
     third: &'a str,
 ) -> Option<Request<&'a str>>
-    ensures { IsAsked (name.now ∷ first.now ∷ second.now ∷ third.now ∷ []) (seen (λ field. field.now) result) }
+    ensures { IsAsked (name.now ∷ first.now ∷ second.now ∷ third.now ∷ []) (request_texts (λ field. field.now) result) }
 {
     match name {
         "to-vers" => Some(Request::ToVers {

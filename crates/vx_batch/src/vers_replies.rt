@@ -21,10 +21,7 @@ fn range_reply(
 {
     match to_vers(alloc, name, domain, range) {
         Ok(text) => Ok(Reply::Found(text)),
-        Err(refusal) => {
-            let reply = refuse(refusal)?;
-            Ok(reply)
-        }
+        Err(refusal) => Ok(refuse(refusal)?),
     }
 }
 
@@ -43,8 +40,7 @@ pub fn to_vers_reply(
     let Some(domain) = domain_named(domain) else {
         return Ok(Reply::Fault(LineFault::BadDomain));
     };
-    let reply = range_reply(alloc, name, chosen_domain(domain, name), range)?;
-    Ok(reply)
+    Ok(range_reply(alloc, name, chosen_domain(domain, name), range)?)
 }
 
 /// The reply to `from-vers`, by the fields behind the command.
@@ -56,10 +52,7 @@ pub fn from_vers_reply(alloc: Global, domain: &str, text: &str) -> Result<Reply,
     };
     match from_vers(alloc, domain, text) {
         Ok(range) => Ok(Reply::Found(range)),
-        Err(refusal) => {
-            let reply = refuse(refusal)?;
-            Ok(reply)
-        }
+        Err(refusal) => Ok(refuse(refusal)?),
     }
 }
 
@@ -69,10 +62,7 @@ pub fn canon_reply(alloc: Global, text: &str) -> Result<Reply, NoMemory>
 {
     match canon(alloc, text) {
         Ok(canonical) => Ok(Reply::Found(canonical)),
-        Err(refusal) => {
-            let reply = refuse(refusal)?;
-            Ok(reply)
-        }
+        Err(refusal) => Ok(refuse(refusal)?),
     }
 }
 
@@ -82,9 +72,6 @@ pub fn has_reply(alloc: Global, text: &str, version: &str) -> Result<Reply, NoMe
 {
     match has(alloc, text, version) {
         Ok(held) => Ok(Reply::Decided(held)),
-        Err(refusal) => {
-            let reply = refuse(refusal)?;
-            Ok(reply)
-        }
+        Err(refusal) => Ok(refuse(refusal)?),
     }
 }

@@ -33,6 +33,6 @@ with_job_texts text (Line request) = Line (with_texts text request)
 with_job_texts text Batch = Batch
 with_job_texts text (Drill count) = Drill count
 
-abbrev pub seen : {F : Type 0} → (F → List ℕ) → Option (Job F) → Option (Job (List ℕ))
-seen text None = None
-seen text (Some job) = Some (with_job_texts text job)
+abbrev pub job_texts : {F : Type 0} → (F → List ℕ) → Option (Job F) → Option (Job (List ℕ))
+job_texts text None = None
+job_texts text (Some job) = Some (with_job_texts text job)

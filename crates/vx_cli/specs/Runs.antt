@@ -1,5 +1,5 @@
 -- What a run ends with, and what its sink gets.
-use Rattle.std.specs.Prelude.{true, ◌≡◌, ◌≢◌, ◌↔◌, ◌⊎◌, ◌<◌, ◌≤◌, ◌^◌, ℕ, List, [], ◌∷◌, ◌++◌, Bool, Option, Result, Ok, Err, if◌then◌else◌}
+use Rattle.std.specs.Prelude.{true, ◌≡◌, ◌≢◌, ◌↔◌, ◌⊎◌, ◌<◌, ◌≤◌, ◌^◌, ℕ, List, [], ◌∷◌, ◌++◌, Bool, Option, Result, Ok, Err, if◌then◌else◌, codes}
 use Rattle.std.specs.Io.KnownBytes.{Appends}
 use Rattle.vx_batch.specs.Answers.{IsAnswer, IsLineAnswer, IsTooLong}
 use Rattle.vx_batch.specs.Drill.{IsDrillAnswer}
@@ -20,7 +20,7 @@ use Rattle.vx_cli.specs.declared.writing.PutFault.TheVariants as fault_of
 
 -- a line of an output: the text and a line feed
 abbrev pub line_of : List ℕ → List ℕ
-line_of text = text ++ 10 ∷ []
+line_of text = text ++ codes "\n"
 
 -- what a run that wrote its whole answer ends with, by whether the answer is an accepted line's
 abbrev pub ended_with : Bool → Status

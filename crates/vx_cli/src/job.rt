@@ -1,7 +1,7 @@
 ghost use Rattle.std.specs.Prelude.{◌≢◌, ◌∷◌, [], List, ℕ, IfNone, IfSome, codes};
 ghost use Rattle.vx_batch.specs.Fields.{texts};
 ghost use Rattle.vx_batch.specs.Rows.{IsRow};
-ghost use Rattle.vx_cli.specs.Jobs.{Asks, IsLineCount, seen};
+ghost use Rattle.vx_cli.specs.Jobs.{Asks, IsLineCount, job_texts};
 
 use vx_batch::{MOST_LINES, Request, Row, request_of};
 use vx_text::numeral;
@@ -20,7 +20,7 @@ pub enum Job<T> {
 /// What the words ask. `None` comes exactly where they are a usage fault: the first word is missing or no command, or the
 /// number of words is not the command's, or the word behind `drill` is no numeral from 1 to 1,000,000. It takes no memory.
 pub fn job_of(words: &[String]) -> Option<Job<&str>>
-    ensures { Asks (texts words.now) (seen (λ field. field.now) result) }
+    ensures { Asks (texts words.now) (job_texts (λ field. field.now) result) }
 {
     match Row::of_words(words) {
         Row::One(name) => job_of_one(name),
@@ -31,7 +31,7 @@ pub fn job_of(words: &[String]) -> Option<Job<&str>>
 
 // What one word asks.
 fn job_of_one(name: &str) -> Option<Job<&str>>
-    ensures { Asks (name.now ∷ []) (seen (λ field. field.now) result) }
+    ensures { Asks (name.now ∷ []) (job_texts (λ field. field.now) result) }
 {
     match name {
         "batch" => Some(Job::Batch),
@@ -41,7 +41,7 @@ fn job_of_one(name: &str) -> Option<Job<&str>>
 
 // What two words ask.
 fn job_of_two<'a>(name: &'a str, field: &'a str) -> Option<Job<&'a str>>
-    ensures { Asks (name.now ∷ field.now ∷ []) (seen (λ field. field.now) result) }
+    ensures { Asks (name.now ∷ field.now ∷ []) (job_texts (λ field. field.now) result) }
 {
     match name {
         "drill" => job_of_drill(field),
@@ -51,7 +51,7 @@ fn job_of_two<'a>(name: &'a str, field: &'a str) -> Option<Job<&'a str>>
 
 // What `drill` and a word ask.
 fn job_of_drill(count: &str) -> Option<Job<&str>>
-    ensures { Asks (codes "drill" ∷ count.now ∷ []) (seen (λ field. field.now) result) }
+    ensures { Asks (codes "drill" ∷ count.now ∷ []) (job_texts (λ field. field.now) result) }
 {
     match line_count(count) {
         Some(lines) => Some(Job::Drill(lines)),
@@ -62,7 +62,7 @@ fn job_of_drill(count: &str) -> Option<Job<&str>>
 // What a row asks that is neither `batch` nor begins with `drill`.
 fn job_of_line<'a>(row: &Row<'a>) -> Option<Job<&'a str>>
     ensures { (words : List (List ℕ)) → IsRow words row.now → words ≢ codes "batch" ∷ [] → ((text : List ℕ) → words ≢ codes "drill" ∷ text ∷ [])
-        → Asks words (seen (λ field. field.now) result) }
+        → Asks words (job_texts (λ field. field.now) result) }
 {
     match request_of(row) {
         Some(request) => Some(Job::Line(request)),

@@ -98,14 +98,14 @@ module _ (says : Says) (piece : ℕ) (l : Reading) (before now old : Option (Lis
   none_waiting (w ∷ waiting) [] e h = absurd h
   none_waiting (w ∷ waiting) (m ∷ more) e h = cc e
 
-  -- what was written before a read, where no line feed is held
-  pub after_write : (has : Bool) (mid new : Option (List ℕ)) (gathered rest : List ℕ) (ok : Bool) → Progress says piece l before now old mid gathered ok → (has ≡ true → (rest ≡ gathered) × (new ≡ mid)) → (has ≡ false → (rest ≡ []) × Appends mid new gathered) → Progress says piece l before now old new rest ok
-  after_write true mid new gathered rest ok p later wrote =
-      let (same, still) = later refl in
-      rw (same, still) p
-  after_write false mid new gathered rest ok p later wrote =
-      let (none, grown) = wrote refl in
-      rw none (written_all mid new gathered ok p grown)
+  -- What is gathered is written before a read, where no line feed is held. So nothing is gathered then, or one is held.
+  pub after_write : {W : Type 0} (told : W → Option (List ℕ)) (has : Bool) (Held : Type 0) (mid new : W) (gathered rest : List ℕ) (ok : Bool)
+      → Progress says piece l before now old (told mid) gathered ok → (has ≡ true → Held) → (has ≡ true → (rest ≡ gathered) × (new ≡ mid)) → (has ≡ false → (rest ≡ []) × Appends (told mid) (told new) gathered)
+      → Progress says piece l before now old (told new) rest ok × ((rest ≡ []) ⊎ Held)
+  after_write told true Held mid new gathered rest ok p held later wrote =
+      let (same, still) = later refl in (rw (same, still) p, inr (held refl))
+  after_write told false Held mid new gathered rest ok p held later wrote =
+      let (none, grown) = wrote refl in (rw none (written_all (told mid) (told new) gathered ok p grown), inl none)
 
   -- a write of what is gathered failed
   behind_of : (limit : ℕ) → (new : Option (List ℕ)) (gathered : List ℕ) (ok : Bool) (mid : Option (List ℕ)) (p : Progress says piece l before now old mid gathered ok) → length p.taken < limit → AppendsFront mid new gathered → (waiting : List (List ℕ)) → p.waiting ≡ waiting → (waiting ≡ [] → ⊥) → HasLines p.taken (p.written ++ p.waiting) now → AnswersBehind says limit piece before now old new

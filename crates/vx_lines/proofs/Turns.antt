@@ -230,10 +230,6 @@ ends says most piece limit l new before mid now old held Limit gathered ok p tak
 ends says most piece limit l new before mid now old held Limit gathered ok p takes same is below was e (inr has) =
     absurd (omega (arith, ap length (takes.unread (inr has)), takes.counted, takes.comes.0, is, below, was))
 
-pub fresh_by : (has : Bool) (Held : Type 0) (gathered : List ℕ) → (has ≡ true → Held) → (has ≡ false → gathered ≡ []) → (gathered ≡ []) ⊎ Held
-fresh_by true Held gathered held none = inr (held refl)
-fresh_by false Held gathered held none = inl (none refl)
-
 pub not_failed : (next : NextLine) → stays_open next ≡ true → next ≢ Failed
 not_failed Line e f = cc f
 not_failed TooLong e f = cc f

@@ -1,6 +1,6 @@
 ghost use Rattle.std.specs.Prelude.{◌≡◌, ◌≢◌, ◌≤◌, ◌<◌, ◌++◌, [], List, ℕ, Bool, true, false, length, IfOk, OnOk, OnErr};
 ghost use Rattle.std.specs.Io.KnownBytes.{Appends};
-ghost use Rattle.vx_lines.specs.Steps.Answers.{EndsSo, Gathers, end_with};
+ghost use Rattle.vx_lines.specs.Steps.Answers.{Gathers, end_with};
 ghost use Rattle.vx_lines.specs.Output.{Ran};
 ghost use Rattle.vx_lines.specs.Lines.{stays_open};
 ghost use Rattle.vx_lines.specs.Outside.{AppendsFront, HasCause, Rose, StopsAtFault, Succeeds, FailsAtLast};
@@ -81,46 +81,6 @@ fn loop_end(is_ok: bool, next: NextLine) -> LoopEnd
     }
 }
 
-// Answers the lines of a source.
-fn run_lines<A: Answering, R: Source, W: Sink>(
-    alloc: Global,
-    limit: u64,
-    answering: &A,
-    source: &mut R,
-    sink: &mut W,
-) -> LoopEnd
-    requires some { 0 < limit }
-    requires most { limit ≤ MOST_INPUT }
-    ensures ends { EndsSo (A.says answering.now) limit MOST_READ result
-        (R.left source.old) (R.left source.new) (W.held sink.old) (W.held sink.new) }
-    ensures read_fault { result ≡ LoopEnd.ReadFault → Rose (R.faults source.old) (R.faults source.new) }
-    ensures no_read_fault { result ≢ LoopEnd.ReadFault → R.faults source.new ≡ R.faults source.old }
-    ensures write_fault { result ≡ LoopEnd.WriteFault → Rose (W.faults sink.old) (W.faults sink.new) }
-    ensures no_write_fault { result ≢ LoopEnd.WriteFault → W.faults sink.new ≡ W.faults sink.old }
-    ensures write_fails { result ≡ LoopEnd.WriteFault → FailsAtLast W.write_gives sink.old sink.new }
-    ensures writes { result ≢ LoopEnd.WriteFault → Succeeds W.write_gives sink.old sink.new }
-{
-    let Ok(mut lines) = Lines::new(alloc, limit) else {
-        return LoopEnd::NoMemory;
-    };
-    let mut gathered = Text::new(alloc);
-    let mut is_ok = true;
-    loop {
-        match write_gathered(lines.has_line(), &mut gathered, sink) {
-            Ok(()) => {}
-            Err(Failed) => return LoopEnd::WriteFault,
-        }
-        let next = lines.next_line(source);
-        if !next.stays_open() {
-            return loop_end(is_ok, next);
-        }
-        match gather(answering, next, lines.line(), &mut gathered) {
-            Ok(ok) => is_ok &= ok,
-            Err(NoMemory) => return LoopEnd::NoMemory,
-        }
-    }
-}
-
 /// Answers the lines of a source, one after the other, and writes the answer lines, each with a line feed, in the memory
 /// of one line and of the answers to one read. The answers to the lines so far are written together before the next read
 /// and before the run ends, but for want of memory. The first fault ends the run. `InputLimit` comes exactly where the
@@ -150,5 +110,23 @@ pub fn answer_lines<A: Answering, R: Source, W: Sink>(
     ensures write_fails { result ≡ LoopEnd.WriteFault → FailsAtLast W.write_gives sink.old sink.new }
     ensures writes { result ≢ LoopEnd.WriteFault → Succeeds W.write_gives sink.old sink.new }
 {
-    run_lines(alloc, limit, answering, source, sink)
+    let Ok(mut lines) = Lines::new(alloc, limit) else {
+        return LoopEnd::NoMemory;
+    };
+    let mut gathered = Text::new(alloc);
+    let mut is_ok = true;
+    loop {
+        match write_gathered(lines.has_line(), &mut gathered, sink) {
+            Ok(()) => {}
+            Err(Failed) => return LoopEnd::WriteFault,
+        }
+        let next = lines.next_line(source);
+        if !next.stays_open() {
+            return loop_end(is_ok, next);
+        }
+        match gather(answering, next, lines.line(), &mut gathered) {
+            Ok(ok) => is_ok &= ok,
+            Err(NoMemory) => return LoopEnd::NoMemory,
+        }
+    }
 }

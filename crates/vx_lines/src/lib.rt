@@ -6,6 +6,7 @@ mod buffers;
 mod laws;
 mod lines;
 mod loop_end;
+mod memory_calls;
 mod memory_sink;
 mod memory_source;
 mod next_line;

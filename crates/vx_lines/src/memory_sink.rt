@@ -2,8 +2,9 @@ ghost use Rattle.std.specs.Prelude.{◌≡◌, ◌<◌, ◌≤◌, ◌+◌, ◌=
 ghost use Rattle.std.specs.Io.{WritesAtMost};
 ghost use Rattle.std.specs.Io.KnownBytes.{WriteAppends};
 ghost use Rattle.vx_lines.specs.Outside.{HasCause};
-ghost use Rattle.vx_lines.specs.InMemory.{Store, is_listed, IsWritten};
+ghost use Rattle.vx_lines.specs.InMemory.{Store, is_listed, no_calls, IsWritten};
 
+use crate::memory_calls::MemoryCalls;
 use crate::outside::{Failed, Sink};
 use std::alloc::Global;
 use std::marker::Model;
@@ -14,9 +15,7 @@ use vx_scheme::NoMemory;
 pub struct MemorySink {
     bytes: Vec<u8>,
     room: usize,
-    fails: Vec<u64>,
-    calls: u64,
-    faults: u64,
+    calls: MemoryCalls,
 }
 
 impl Model for MemorySink {
@@ -25,13 +24,7 @@ impl Model for MemorySink {
 
     ghost Value = { Store };
 
-    ghost view = { λ s. record {
-      bytes = s.bytes.items;
-      room = s.room;
-      fails = s.fails.items;
-      calls = s.calls;
-      faults = s.faults;
-    } };
+    ghost view = { λ s. record { bytes = s.bytes.items; room = s.room; calls = s.calls } };
 
     // The room is there, so that no write takes memory.
     ghost invariant = { λ s. vec_len s.bytes + s.room ≤ vec_capacity s.bytes };
@@ -40,16 +33,13 @@ impl Model for MemorySink {
 impl MemorySink {
     /// An empty sink with this room. The calls of these numbers, from 1, fail.
     pub fn with_room(alloc: Global, room: usize, fails: Vec<u64>) -> Result<MemorySink, NoMemory>
-        ensures { IfOk result (λ s. s
-            ≡ record { bytes = []; room = room; fails = fails.items; calls = 0; faults = 0 }) }
+        ensures { IfOk result (λ s. s ≡ record { bytes = []; room = room; calls = no_calls fails.items }) }
     {
         match Vec::with_capacity(alloc, room) {
             Ok(bytes) => Ok(MemorySink {
                 bytes,
                 room,
-                fails,
-                calls: 0,
-                faults: 0,
+                calls: MemoryCalls::new(fails),
             }),
             Err(_) => Err(NoMemory),
         }
@@ -66,7 +56,7 @@ impl MemorySink {
 impl Sink for MemorySink {
     ghost held = { λ s. Some s.bytes };
 
-    ghost faults = { λ s. s.faults };
+    ghost faults = { λ s. s.calls.faults };
 
     ghost write_gives = { IsWritten };
 
@@ -74,28 +64,20 @@ impl Sink for MemorySink {
         ensures bound { WritesAtMost result bytes.now }
         ensures progress { IfOk result (λ n. 0 < length bytes.now → 0 < n) }
         ensures bytes { WriteAppends (Some self.old.bytes) (Some self.new.bytes) result bytes.now }
-        ensures cause { HasCause self.old.faults self.new.faults result }
+        ensures cause { HasCause self.old.calls.faults self.new.calls.faults result }
 
         // The listed calls fail, and those that find no room for a piece, and no others.
         ensures listed { is_err result
-            ≡ (is_listed self.old.fails self.old.calls || ((self.old.room == 0) && not (length bytes.now == 0))) }
+            ≡ (is_listed self.old.calls || ((self.old.room == 0) && not (length bytes.now == 0))) }
 
         // What fits is taken, and a call that fails counts a fault.
         ensures most { IfOk result (λ n. n ≡ min (length bytes.now) self.old.room) }
         ensures gives { IsWritten self.old bytes.now result self.new }
     {
-        self.calls = self.calls.saturating_add(1);
         let count = bytes.len().min(self.room);
-        let none_fits = count == 0 && !bytes.is_empty();
-        if self.fails.contains(&self.calls) || none_fits {
-            self.faults = self.faults.saturating_add(1);
-            return Err(Failed);
-        }
+        self.calls.count(count > 0 || bytes.is_empty())?;
         // The room is there, so this finds memory.
-        if self.bytes.extend_from_slice(&bytes[..count]).is_err() {
-            self.faults = self.faults.saturating_add(1);
-            return Err(Failed);
-        }
+        let _ = self.bytes.extend_from_slice(&bytes[..count]);
         self.room -= count;
         Ok(count)
     }

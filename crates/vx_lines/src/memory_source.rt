@@ -2,8 +2,9 @@ ghost use Rattle.std.specs.Prelude.{◌≡◌, ◌<◌, ◌≤◌, ◌+◌, [], 
 ghost use Rattle.std.specs.Io.{ReadsAtMost};
 ghost use Rattle.std.specs.Io.KnownBytes.{ReadConsumes};
 ghost use Rattle.vx_lines.specs.Outside.{HasCause, KeepsRest};
-ghost use Rattle.vx_lines.specs.InMemory.{Supply, is_listed, without_front, with_failed_read};
+ghost use Rattle.vx_lines.specs.InMemory.{Supply, is_listed, no_calls, without_front, with_failed_read};
 
+use crate::memory_calls::MemoryCalls;
 use crate::outside::{Failed, Source};
 use crate::plain_source::copy_front;
 use std::marker::Model;
@@ -14,9 +15,7 @@ pub struct MemorySource {
     bytes: Vec<u8>,
     at: usize,
     step: usize,
-    fails: Vec<u64>,
-    calls: u64,
-    faults: u64,
+    calls: MemoryCalls,
 }
 
 impl Model for MemorySource {
@@ -25,13 +24,7 @@ impl Model for MemorySource {
 
     ghost Value = { Supply };
 
-    ghost view = { λ s. record {
-      left = drop s.at s.bytes.items;
-      step = s.step;
-      fails = s.fails.items;
-      calls = s.calls;
-      faults = s.faults;
-    } };
+    ghost view = { λ s. record { left = drop s.at s.bytes.items; step = s.step; calls = s.calls } };
 
     ghost invariant = { λ s. (s.at ≤ length s.bytes.items) × (0 < s.step) };
 }
@@ -41,15 +34,13 @@ impl MemorySource {
     /// fail. It takes no memory.
     pub fn new(bytes: Vec<u8>, step: usize, fails: Vec<u64>) -> Self
         requires { 0 < step }
-        ensures { result ≡ record { left = bytes.items; step = step; fails = fails.items; calls = 0; faults = 0 } }
+        ensures { result ≡ record { left = bytes.items; step = step; calls = no_calls fails.items } }
     {
         MemorySource {
             bytes,
             at: 0,
             step,
-            fails,
-            calls: 0,
-            faults: 0,
+            calls: MemoryCalls::new(fails),
         }
     }
 }
@@ -57,27 +48,23 @@ impl MemorySource {
 impl Source for MemorySource {
     ghost left = { λ s. Some s.left };
 
-    ghost faults = { λ s. s.faults };
+    ghost faults = { λ s. s.calls.faults };
 
     fn read(&mut self, buf: &mut [u8]) -> Result<usize, Failed>
         ensures bound { ReadsAtMost result buf.new }
         ensures bytes { ReadConsumes (Some self.old.left) (Some self.new.left) result buf.new }
         ensures rest { KeepsRest result buf.old buf.new }
-        ensures cause { HasCause self.old.faults self.new.faults result }
+        ensures cause { HasCause self.old.calls.faults self.new.calls.faults result }
 
         // The listed calls fail, and no others.
-        ensures listed { is_err result ≡ is_listed self.old.fails self.old.calls }
+        ensures listed { is_err result ≡ is_listed self.old.calls }
 
         // As many bytes are given as the step, the buffer and what is left allow, and a call that fails counts a fault.
         ensures most { IfOk result (λ n. n ≡ min self.old.step (min (length buf.old) (length self.old.left))) }
         ensures taken { IfOk result (λ n. self.new ≡ without_front self.old n) }
         ensures failed { OnErr result (self.new ≡ with_failed_read self.old) }
     {
-        self.calls = self.calls.saturating_add(1);
-        if self.fails.contains(&self.calls) {
-            self.faults = self.faults.saturating_add(1);
-            return Err(Failed);
-        }
+        self.calls.count(true)?;
         let most = self.bytes.len().min(self.at.saturating_add(self.step));
         let count = copy_front(&self.bytes[self.at..most], buf);
         self.at += count;

@@ -4,7 +4,8 @@ use Rattle.std.specs.List.{AllByRecursion}
 use Rattle.vx_spec.specs.Marks.{IsCut}
 use Rattle.vx_spec.proofs.EachLaws.{each_behind}
 use Rattle.vx_scheme.specs.declared.ident.Ident.{Ident}
-use Rattle.vx_order.specs.Dotted.{dot, pieces}
+use Rattle.vx_spec.specs.Signs.{dot}
+use Rattle.vx_order.specs.Dotted.{pieces}
 use Rattle.vx_order.specs.Identifiers.{IdentIsWithin, identifier_of}
 use Rattle.vx_order.specs.Laws.Dotted.{pieces_cut}
 

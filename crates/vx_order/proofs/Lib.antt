@@ -3,5 +3,4 @@ pub mod LetterLaws
 pub mod PlaceRows
 pub mod DottedMaking
 pub mod PastPartLaws
-pub mod Pushed
 pub mod ScanLimits

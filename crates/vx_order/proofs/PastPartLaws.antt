@@ -4,7 +4,8 @@ use Rattle.std.specs.List.{AllByRecursion}
 use Rattle.std.proofs.lemmas.Bool.{cases_Bool, ltb-true, lt-ltb}
 use Rattle.vx_spec.specs.Marks.{IsCut}
 use Rattle.vx_spec.specs.Numerals.{is_numeral, value}
-use Rattle.vx_order.specs.Dotted.{dot, dotted, pieces}
+use Rattle.vx_spec.specs.Signs.{dot}
+use Rattle.vx_order.specs.Dotted.{dotted, pieces}
 use Rattle.vx_order.specs.Identifiers.{IdentIsWithin, identifier_of}
 use Rattle.vx_order.specs.PastParts.{first_past_part, is_past_numeral}
 use Rattle.vx_order.specs.Laws.Dotted.{pieces_cut}

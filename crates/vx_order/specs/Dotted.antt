@@ -1,18 +1,7 @@
 -- Parts joined by '.', as Semantic Versioning 2.0, items 2, 9 and 10, joins them, and texts cut at their dots.
 use Rattle.std.specs.Prelude.{◌==◌, ℕ, List, [], ◌∷◌, Option, Some, None}
 use Rattle.std.specs.List.{join_with_byte, slice_split}
-
--- the byte '.'
-abbrev pub dot : ℕ
-dot = 46
-
--- the byte '-'
-abbrev pub hyphen : ℕ
-hyphen = 45
-
--- the byte '+'
-abbrev pub plus : ℕ
-plus = 43
+use Rattle.vx_spec.specs.Signs.{dot}
 
 -- parts joined by '.', behind their mark, where there are any
 abbrev pub tail : ℕ → List (List ℕ) → List ℕ

@@ -1,13 +1,13 @@
 -- Identifiers as Semantic Versioning 2.0, item 10, has them, leading zeros accepted: which texts are identifiers, and what
 -- they stand for (item 11: digits alone are a number), with numbers of any size; and the limit of numerals, which is this
 -- project's own.
-use Rattle.std.specs.Prelude.{◌==◌, ◌&&◌, ◌||◌, ◌^◌, ◌<◌, not, nat_lt, ℕ, Bool, true, List, length, if◌then◌else◌}
+use Rattle.std.specs.Prelude.{◌==◌, ◌&&◌, ◌||◌, ◌^◌, ◌<◌, not, ℕ, Bool, true, List, if◌then◌else◌}
 use Rattle.std.specs.Char.{is_ascii_alphanumeric}
-use Rattle.std.specs.List.{list_all}
 use Rattle.vx_spec.specs.Numerals.{is_numeral, numeral_text, value}
+use Rattle.vx_spec.specs.Runs.{is_made_of}
 use Rattle.vx_scheme.specs.declared.ident.Ident.{Ident}
 use Rattle.vx_scheme.specs.declared.ident.Ident.TheVariants.{Number, Word}
-use Rattle.vx_order.specs.Dotted.{hyphen}
+use Rattle.vx_spec.specs.Signs.{hyphen}
 
 -- identifiers hold only ASCII letters, digits and '-'
 abbrev pub is_identifier_byte : ℕ → Bool
@@ -15,7 +15,7 @@ is_identifier_byte b = is_ascii_alphanumeric b || (b == hyphen)
 
 -- the text of an identifier: one such byte or more
 abbrev pub is_identifier : List ℕ → Bool
-is_identifier text = nat_lt 0 (length text) && list_all is_identifier_byte text
+is_identifier text = is_made_of is_identifier_byte text
 
 -- a numeric identifier is any number; any other is an identifier that is not digits alone
 abbrev pub is_ident : Ident → Bool

@@ -1,5 +1,6 @@
--- The order of letters, and of lists of them that are continued without end by one letter.
-use Rattle.std.specs.Prelude.{ℕ, Bool, true, false, List, [], ◌∷◌}
+-- The order of letters, and of lists of them that are continued without end by one letter; and the limit of their numbers, which
+-- is this project's own.
+use Rattle.std.specs.Prelude.{◌<◌, ◌^◌, ℕ, Bool, true, false, List, [], ◌∷◌}
 use Rattle.std.specs.Cmp.Lexicographic.{slice_cmp}
 use Rattle.std.specs.Ordering.{nat_cmp, on, then_cmp, is_eq}
 use Rattle.std.specs.declared.cmp.Ordering.{Ordering}
@@ -33,3 +34,7 @@ letter_before is_end letter (next ∷ letters) = letter ∷ next ∷ letters
 abbrev pub without_end_letters : ℕ → List Letter → List Letter
 without_end_letters end_rank [] = []
 without_end_letters end_rank (letter ∷ letters) = letter_before (is_eq (letter_cmp letter (end_letter end_rank))) letter (without_end_letters end_rank letters)
+
+-- a letter's number is within the limit of 128 bits
+abbrev pub LetterIsWithin : Letter → Type 0
+LetterIsWithin letter = letter.number < 2 ^ 128

@@ -5,13 +5,14 @@ ghost use Rattle.std.specs.Option.{option_copied};
 ghost use Rattle.std.specs.List.{AllByRecursion, list_all};
 ghost use Rattle.vx_scheme.specs.Values.{Gives};
 ghost use Rattle.vx_order.specs.Dotted.{dotted, pieces};
-ghost use Rattle.vx_order.specs.Identifiers.{IdentIsWithin, identifier_of, is_identifier, is_identifier_byte};
+ghost use Rattle.vx_order.specs.Identifiers.{IdentIsWithin, identifier_of, is_identifier};
 ghost use Rattle.vx_order.specs.Cuts.{IsCutApart};
 ghost use Rattle.vx_order.specs.Steps.Apart.{is_core_byte};
 
 use std::alloc::Global;
+use std::marker::PhantomData;
 use vx_scheme::{Ident, Idents, Text, VersionFault};
-use vx_text::{NumeralFault, cut, numeral};
+use vx_text::{ByteClass, NumeralFault, cut, is_made_of, numeral};
 
 /// What stands before the marks, behind the first `-` before the first `+`, and behind that `+`. It takes no memory.
 pub fn cut_apart(text: &str) -> (&str, Option<&str>, Option<&str>)
@@ -44,32 +45,42 @@ pub trait PartForm {
         ensures { result ≡ holds part.now };
 }
 
-/// The form of identifiers: one ASCII letter, digit or `-`, or more.
-pub struct Identifiers;
+/// The form of one byte of a class or more.
+pub struct MadeOf<C> {
+    class: PhantomData<C>,
+}
 
-impl PartForm for Identifiers {
-    ghost use Rattle.vx_order.specs.Identifiers.{is_identifier};
+impl<C: ByteClass> PartForm for MadeOf<C> {
+    ghost use Rattle.vx_spec.specs.Runs.{is_made_of};
 
-    ghost holds = { is_identifier };
+    ghost holds = { is_made_of C.holds };
 
     fn is_one(part: &str) -> bool {
-        is_identifier(part)
+        is_made_of::<C>(part.as_bytes())
     }
 }
+
+/// The ASCII letters, the digits and `-`.
+pub struct IdentifierBytes;
+
+impl ByteClass for IdentifierBytes {
+    ghost use Rattle.vx_order.specs.Identifiers.{is_identifier_byte};
+
+    ghost holds = { is_identifier_byte };
+
+    fn is_one(byte: u8) -> bool {
+        byte.is_ascii_alphanumeric() || byte == b'-'
+    }
+}
+
+/// The form of identifiers: one ASCII letter, digit or `-`, or more.
+pub type Identifiers = MadeOf<IdentifierBytes>;
 
 /// Whether the text is an identifier. It takes no memory.
 pub fn is_identifier(text: &str) -> bool
     ensures { result ≡ is_identifier text.now }
 {
-    !text.is_empty() && has_identifier_bytes(text)
-}
-
-fn has_identifier_bytes(text: &str) -> bool
-    ensures { result ≡ list_all is_identifier_byte text.now }
-{
-    text.as_bytes()
-        .iter()
-        .all(|byte| byte.is_ascii_alphanumeric() || *byte == b'-')
+    is_made_of::<IdentifierBytes>(text.as_bytes())
 }
 
 /// Whether each part between the dots has the form; a text that is left out has none. It takes no memory.

@@ -15,7 +15,10 @@ mod scanning_tokens;
 mod tests;
 mod writing;
 
-pub use dotted::{Identifiers, PartForm, all_parts, cut_apart, is_identifier, read_idents};
+pub use dotted::{
+    IdentifierBytes, Identifiers, MadeOf, PartForm, all_parts, cut_apart, is_identifier,
+    read_idents,
+};
 pub use idents::{EmptyPlace, IdentRule, NumberPlace, WordOrder, compare_idents, order_by_idents};
 pub use letter::{Letter, Letters, copy_letters};
 pub use letters::{compare_letters, order_by_letters};

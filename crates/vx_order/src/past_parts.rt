@@ -1,11 +1,8 @@
 ghost use Rattle.std.specs.Prelude.{◌≡◌, ◌+◌, ◌<◌, ◌^◌, length};
-ghost use Rattle.std.specs.Char.{is_ascii_digit};
-ghost use Rattle.std.specs.List.{list_all};
-ghost use Rattle.vx_spec.specs.Numerals.{is_numeral};
 ghost use Rattle.vx_order.specs.Dotted.{dotted};
 ghost use Rattle.vx_order.specs.PastParts.{first_past_part, is_past_numeral};
 
-use vx_text::{cut_bytes, is_past};
+use vx_text::{cut_bytes, is_numeral, is_past};
 
 /// Where among the parts between dots, the first of which begins at this place, the first numeral begins that passes
 /// 2^128-1. It takes no memory.
@@ -33,16 +30,4 @@ pub fn is_past_numeral(part: &[u8]) -> bool
     ensures { result ≡ is_past_numeral part.now }
 {
     is_numeral(part) && is_past(part)
-}
-
-fn is_numeral(part: &[u8]) -> bool
-    ensures { result ≡ is_numeral part.now }
-{
-    !part.is_empty() && all_digits(part)
-}
-
-fn all_digits(part: &[u8]) -> bool
-    ensures { result ≡ list_all is_ascii_digit part.now }
-{
-    part.iter().all(|byte| byte.is_ascii_digit())
 }

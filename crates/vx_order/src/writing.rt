@@ -1,9 +1,10 @@
 ghost use Rattle.std.specs.Prelude.{◌≡◌, ◌++◌, OnOk, OnErr, map};
 ghost use Rattle.std.specs.List.{join_with_byte};
-ghost use Rattle.vx_order.specs.Dotted.{dot, hyphen, tail};
+ghost use Rattle.vx_text.specs.Begun.{IsBegunBy};
+ghost use Rattle.vx_spec.specs.Signs.{dot, hyphen};
+ghost use Rattle.vx_order.specs.Dotted.{tail};
 ghost use Rattle.vx_order.specs.Identifiers.{identifier_text};
-ghost use Rattle.vx_order.specs.Cuts.{IsBegunBy};
-ghost use Rattle.vx_order.specs.Steps.Begun.{dot_before};
+ghost use Rattle.vx_text.specs.Steps.Between.{mark_before};
 
 use vx_scheme::{Ident, NoMemory, Text};
 
@@ -33,7 +34,7 @@ pub fn push_dotted(out: &mut Text, idents: &[Ident]) -> Result<(), NoMemory>
 
 // What stands before the identifier at a place.
 fn push_dot(out: &mut Text, i: usize) -> Result<(), NoMemory>
-    ensures ok { OnOk result (out.new ≡ out.old ++ dot_before i) }
+    ensures ok { OnOk result (out.new ≡ out.old ++ mark_before dot i) }
     ensures err { OnErr result (out.new ≡ out.old) }
 {
     if i == 0 {

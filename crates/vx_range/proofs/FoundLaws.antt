@@ -104,8 +104,8 @@ item_stops Syntax Past Endless TooHigh R items rest x old new Made f (fault_of.N
 item_stops Syntax Past Endless TooHigh R items rest x old new Made f fault_of.NoMemory h = absurd h
 
 -- a fault of syntax of a group is that of all groups
-pub group_stops : {A B : Type 0} (Syntax Past : A → Option ℕ → Type 0) (Endless : A → Option (EndKind × ℕ) → Type 0) (TooHigh : A → Option ℕ → Type 0) (R : A → B → Type 0)
-    (groups rest : List (List A)) (items : List A) (old new : Findings) (Made : List (List B) → Type 0) → AreFound (IsFirst Syntax) (IsFirst Past) (IsFirst Endless) (IsFirst TooHigh) (AreEach R) groups old new Made
+pub group_stops : {A B : Type 0} (Syntax : A → Option ℕ → Type 0) (Past : List A → Option ℕ → Type 0) (Endless : List A → Option (EndKind × ℕ) → Type 0) (TooHigh : List A → Option ℕ → Type 0) (R : List A → B → Type 0)
+    (groups rest : List (List A)) (items : List A) (old new : Findings) (Made : List B → Type 0) → AreFound (IsFirst Syntax) Past Endless TooHigh R groups old new Made
     → (fault : RangeFault) → IsSyntaxOf Syntax items fault → IsSyntaxOf (IsFirst Syntax) (groups ++ items ∷ rest) fault
 group_stops Syntax Past Endless TooHigh R groups rest items old new Made f (fault_of.Syntax at) h = first_pass (IsFirst Syntax) groups (items ∷ rest) (Some at) f.syntax' (inr (at, h, refl))
 group_stops Syntax Past Endless TooHigh R groups rest items old new Made f (fault_of.Numeral at) h = absurd h
@@ -156,10 +156,10 @@ module _ {X A B : Type 0} (Syntax Past : A → Option ℕ → Type 0) (Endless :
         (item_stops Syntax Past Endless TooHigh R (map f (take i xs)) (map f (drop (i + 1) xs)) (f x) old new Made found fault h)
 
 -- the same of a loop over groups
-module _ {X A B : Type 0} (Syntax Past : A → Option ℕ → Type 0) (Endless : A → Option (EndKind × ℕ) → Type 0) (TooHigh : A → Option ℕ → Type 0) (R : A → B → Type 0)
+module _ {X A B : Type 0} (Syntax : A → Option ℕ → Type 0) (Past : List A → Option ℕ → Type 0) (Endless : List A → Option (EndKind × ℕ) → Type 0) (TooHigh : List A → Option ℕ → Type 0) (R : List A → B → Type 0)
     (f : X → List A) (xs : List X) (i : ℕ) (x : X) (at : slice_get xs i ≡ Some x) where
-  pub group_stops_at : (old new : Findings) (Made : List (List B) → Type 0) → AreFound (IsFirst Syntax) (IsFirst Past) (IsFirst Endless) (IsFirst TooHigh) (AreEach R) (map f (take i xs)) old new Made
+  pub group_stops_at : (old new : Findings) (Made : List B → Type 0) → AreFound (IsFirst Syntax) Past Endless TooHigh R (map f (take i xs)) old new Made
       → (fault : RangeFault) → IsSyntaxOf Syntax (f x) fault → IsSyntaxOf (IsFirst Syntax) (map f xs) fault
   group_stops_at old new Made found fault h =
-      subst (λ (items : List (List A)). IsSyntaxOf (IsFirst Syntax) items fault) (around (IsFirst Syntax) (IsFirst Past) (IsFirst Endless) (IsFirst TooHigh) (AreEach R) f xs i x at)
+      subst (λ (items : List (List A)). IsSyntaxOf (IsFirst Syntax) items fault) (around (IsFirst Syntax) Past Endless TooHigh R f xs i x at)
       (group_stops Syntax Past Endless TooHigh R (map f (take i xs)) (map f (drop (i + 1) xs)) (f x) old new Made found fault h)

@@ -2,6 +2,7 @@ pub mod Constructs
 pub mod OneRefusal
 pub mod Ranges
 pub mod Points
+pub mod Extents
 pub mod Gaps
 pub mod Apart
 pub mod Joins

@@ -3,6 +3,8 @@ pub mod Reading
 pub mod Making
 pub mod Ranges
 pub mod Spans
+pub mod Gaps
+pub mod Extents
 pub mod Running
 pub mod Apart
 pub mod Sizes

@@ -9,12 +9,12 @@ pub record Written (K : Type 0) : Type 0 where
   pub bytes : List ℕ
 
 -- the piece that the program holds
-abbrev pub seen : {K : Type 0} → Piece K → Written K
-seen piece = record { kind = piece.kind; at = piece.at; bytes = piece.bytes.now }
+abbrev pub as_written : {K : Type 0} → Piece K → Written K
+as_written piece = record { kind = piece.kind; at = piece.at; bytes = piece.bytes.now }
 
 -- the pieces of a group that the program holds
-abbrev pub seen_all : {K : Type 0} → List (Piece K) → List (Written K)
-seen_all group = map seen group
+abbrev pub all_as_written : {K : Type 0} → List (Piece K) → List (Written K)
+all_as_written group = map as_written group
 
 -- the piece ends within the places of a text
 abbrev pub IsInPlace : {K : Type 0} → Written K → Type 0

@@ -27,6 +27,13 @@ AnswersPiece ReadsAs IsPast piece (Construct construct) = ReadsAs piece construc
 AnswersPiece ReadsAs IsPast piece (Past at) = IsPast piece at
 AnswersPiece ReadsAs IsPast piece NoConstruct = ¬ (IsConstruct ReadsAs piece)
 
+-- What the reading of a text answers, where `Reads` says what it is read as, and `past` where its first numeral past the limit
+-- begins.
+abbrev pub Answers : {C : Type 0} → (C → Type 0) → Option ℕ → PieceReading C → Type 0
+Answers Reads past (Construct construct) = Reads construct × (past ≡ None)
+Answers {C = C} Reads past (Past at) = ((construct : C) × Reads construct) × (past ≡ Some at)
+Answers {C = C} Reads past NoConstruct = (construct : C) → ¬ (Reads construct)
+
 -- What a language promises of its pieces: each is one construct at most, and its first numeral past the limit begins at
 -- one place at most, and only in a construct.
 pub record PieceLaws {K C : Type 0} (ReadsAs : Written K → C → Type 0) (IsPast : Written K → ℕ → Type 0) : Type 0 where

@@ -42,6 +42,10 @@ module _ {V : Type 0} where
   abbrev pub between : ℕ → V → V → List (Span V)
   between mark version end = record { lower = before mark version; upper = before (mark + 1) end } ∷ []
 
+  -- `[V, W]`
+  abbrev pub closed : ℕ → V → V → List (Span V)
+  closed mark version end = record { lower = before mark version; upper = after (mark + 1) end } ∷ []
+
 -- the cuts stand before and after one order class
 abbrev pub is_point : {V : Type 0} → (V → V → Ordering) → Cut V → Cut V → Bool
 is_point order lower upper = (not lower.after && upper.after) && is_eq (order lower.version upper.version)

@@ -1,3 +1,4 @@
 pub mod Ends
 pub mod Found
 pub mod Marks
+pub mod Raised

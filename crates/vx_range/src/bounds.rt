@@ -2,7 +2,7 @@ ghost use Rattle.std.specs.Prelude.{ℕ, List, ◌≡◌, ◌<◌, ◌^◌, None
 ghost use Rattle.std.specs.List.{AllByRecursion};
 ghost use Rattle.vx_spec.specs.Firsts.{IsFirst};
 ghost use Rattle.vx_scheme.specs.Native.{Refused};
-ghost use Rattle.vx_range.specs.Pieces.{seen_all, IsInPlace};
+ghost use Rattle.vx_range.specs.Pieces.{all_as_written, IsInPlace};
 ghost use Rattle.vx_range.specs.Reading.{IsNoConstruct};
 ghost use Rattle.vx_range.specs.Making.{groups_from, alternatives_of, terms_of};
 ghost use Rattle.vx_range.specs.Ranges.{MakesBounds, RefusesText};
@@ -65,10 +65,10 @@ fn read_cut<L: Language, S: Shape<L>>(
     groups: &Groups<L::Kind>,
     domain: Domain,
 ) -> Result<List<S>, RangeFault>
-    requires { AllByRecursion (AllByRecursion IsInPlace) (map seen_all groups.now) }
-    ensures ok { (text : List ℕ) → L.IsCut text (map seen_all groups.now) → IfOk result
+    requires { AllByRecursion (AllByRecursion IsInPlace) (map all_as_written groups.now) }
+    ensures ok { (text : List ℕ) → L.IsCut text (map all_as_written groups.now) → IfOk result
         (MakesBounds L.IsCut L.ReadsAs L.IsPast (L.outcome domain) (groups_from (L.spans domain) S.together 0) text) }
-    ensures err { (text : List ℕ) → L.IsCut text (map seen_all groups.now) → IfErr result
+    ensures err { (text : List ℕ) → L.IsCut text (map all_as_written groups.now) → IfErr result
         (Refused (RefusesText L.IsCut L.ReadsAs L.IsPast (L.outcome domain) text)) }
 {
     let mut findings = Findings::start();
@@ -84,11 +84,11 @@ fn read_groups<L: Language, S: Shape<L>>(
     domain: Domain,
     findings: &mut Findings,
 ) -> Result<List<S>, RangeFault>
-    requires { AllByRecursion (AllByRecursion IsInPlace) (map seen_all groups.now) }
+    requires { AllByRecursion (AllByRecursion IsInPlace) (map all_as_written groups.now) }
     ensures ok { IfOk result (λ shapes.
-        AreGroupsFound L.ReadsAs L.IsPast (L.outcome domain) (map seen_all groups.now) findings.old findings.new
+        AreGroupsFound L.ReadsAs L.IsPast (L.outcome domain) (map all_as_written groups.now) findings.old findings.new
         (AreGroupsMade S.together (L.spans domain) findings.old.marks findings.new.marks shapes)) }
-    ensures err { IfErr result (Refused (IsSyntaxOf (IsFirst (IsNoConstruct L.ReadsAs)) (map seen_all groups.now))) }
+    ensures err { IfErr result (Refused (IsSyntaxOf (IsFirst (IsNoConstruct L.ReadsAs)) (map all_as_written groups.now))) }
 {
     let mut shapes = List::with_room(alloc, groups.len())?;
     for i in 0..groups.len() {

@@ -2,7 +2,7 @@ ghost use Rattle.std.specs.Prelude.{◌≡◌, ◌∷◌, [], None, Some, IfOk, 
 ghost use Rattle.std.specs.List.{AllByRecursion};
 ghost use Rattle.vx_spec.specs.Each.{joined};
 ghost use Rattle.vx_scheme.specs.Native.{Refused};
-ghost use Rattle.vx_range.specs.Pieces.{seen, IsInPlace};
+ghost use Rattle.vx_range.specs.Pieces.{as_written, IsInPlace};
 ghost use Rattle.vx_range.specs.Reading.{IsNoConstruct};
 ghost use Rattle.vx_range.specs.Making.{made_each, marks_behind};
 ghost use Rattle.vx_range.specs.Steps.Ends.{start, EndsWith};
@@ -84,10 +84,10 @@ pub(crate) fn add_piece<L: Language>(
     findings: &mut Findings,
     out: &mut Spans<L::Version>,
 ) -> Result<(), RangeFault>
-    requires { IsInPlace (seen piece.now) }
-    ensures ok { OnOk result (IsPieceFound L.ReadsAs L.IsPast (L.outcome domain) (seen piece.now) findings.old findings.new
+    requires { IsInPlace (as_written piece.now) }
+    ensures ok { OnOk result (IsPieceFound L.ReadsAs L.IsPast (L.outcome domain) (as_written piece.now) findings.old findings.new
         (AppendsSpans (L.spans domain) findings.old.marks findings.new.marks out.old out.new)) }
-    ensures err { IfErr result (Refused (IsSyntaxOf (IsNoConstruct L.ReadsAs) (seen piece.now ∷ []))) }
+    ensures err { IfErr result (Refused (IsSyntaxOf (IsNoConstruct L.ReadsAs) (as_written piece.now ∷ []))) }
 {
     match L::read_piece(alloc, piece)? {
         PieceReading::Construct(construct) => {

@@ -1,6 +1,6 @@
 ghost use Rattle.std.specs.Prelude.{ℕ, List, IfOk, ◌<◌, ◌^◌, length, map};
 ghost use Rattle.std.specs.List.{AllByRecursion};
-ghost use Rattle.vx_range.specs.Pieces.{Written, seen, seen_all, IsInPlace};
+ghost use Rattle.vx_range.specs.Pieces.{Written, as_written, all_as_written, IsInPlace};
 ghost use Rattle.vx_range.specs.Reading.{AnswersPiece, PieceLaws, CutLaws};
 
 use crate::few::Groups;
@@ -26,16 +26,16 @@ pub trait Language: Making {
     /// The groups of pieces of a text.
     fn cut_text(alloc: Global, text: &[u8]) -> Result<Groups<'_, Self::Kind>, AllocError>
         requires { length text.now < 2 ^ 64 }
-        ensures cut { IfOk result (λ groups. IsCut text.now (map seen_all groups)) }
-        ensures placed { IfOk result (λ groups. AllByRecursion (AllByRecursion IsInPlace) (map seen_all groups)) };
+        ensures cut { IfOk result (λ groups. IsCut text.now (map all_as_written groups)) }
+        ensures placed { IfOk result (λ groups. AllByRecursion (AllByRecursion IsInPlace) (map all_as_written groups)) };
 
     /// What a piece is.
     fn read_piece(
         alloc: Global,
         piece: &Piece<Self::Kind>,
     ) -> Result<PieceReading<Self::Construct>, NoMemory>
-        requires { IsInPlace (seen piece.now) }
-        ensures { IfOk result (AnswersPiece ReadsAs IsPast (seen piece.now)) };
+        requires { IsInPlace (as_written piece.now) }
+        ensures { IfOk result (AnswersPiece ReadsAs IsPast (as_written piece.now)) };
 
     /// A text is cut in one way.
     ghost cuts: { CutLaws IsCut };

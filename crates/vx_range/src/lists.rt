@@ -2,7 +2,7 @@ ghost use Rattle.std.specs.Prelude.{ℕ, List, [], ◌∷◌, ◌≡◌, ◌==�
 ghost use Rattle.std.specs.List.{AllByRecursion, slice_split};
 ghost use Rattle.vx_spec.specs.Each.{AreEach};
 ghost use Rattle.vx_text.specs.Pieces.{places};
-ghost use Rattle.vx_range.specs.Pieces.{seen, seen_all, IsInPlace};
+ghost use Rattle.vx_range.specs.Pieces.{as_written, all_as_written, IsInPlace};
 ghost use Rattle.vx_range.specs.Lists.{piece_of, pieces_at, group_of, groups_of, not_empty, IsPlaced};
 
 use crate::few::{Few, Groups, Pieces};
@@ -13,10 +13,11 @@ use vx_text::{Blanks, cut_bytes, past_run, trimmed};
 /// A piece of a list, of which there is one kind.
 type Plain<'a> = Piece<'a, ()>;
 
-/// The piece of a part that begins at this place.
-fn piece_of(part: &[u8], at: usize) -> Plain<'_>
+/// The piece of a part that begins at this place: the part without the blanks at its ends, and where that begins; a blank
+/// part is an empty piece at its own start. It takes no memory.
+pub fn piece_of(part: &[u8], at: usize) -> Piece<'_, ()>
     requires { at + length part.now < 2 ^ 64 }
-    ensures piece { seen result ≡ piece_of at part.now }
+    ensures piece { as_written result ≡ piece_of at part.now }
     ensures within { result.at + length result.bytes.now ≤ at + length part.now }
 {
     let bytes = trimmed(part);
@@ -40,8 +41,8 @@ pub fn pieces_at(
     separator: u8,
 ) -> Result<Pieces<'_, ()>, AllocError>
     requires { at + length text.now < 2 ^ 64 }
-    ensures pieces { IfOk result (λ v. seen_all v ≡ pieces_at separator at text.now) }
-    ensures placed { IfOk result (λ v. AllByRecursion IsInPlace (seen_all v)) }
+    ensures pieces { IfOk result (λ v. all_as_written v ≡ pieces_at separator at text.now) }
+    ensures placed { IfOk result (λ v. AllByRecursion IsInPlace (all_as_written v)) }
 {
     let mut pieces = Few::new(alloc);
     let mut from = at;
@@ -63,9 +64,9 @@ fn group_of<'a>(
     piece: Plain<'a>,
     inner: Option<u8>,
 ) -> Result<Pieces<'a, ()>, AllocError>
-    requires { IsInPlace (seen piece) }
-    ensures group { IfOk result (λ v. seen_all v ≡ group_of inner (seen piece.entry)) }
-    ensures placed { IfOk result (λ v. AllByRecursion IsInPlace (seen_all v)) }
+    requires { IsInPlace (as_written piece) }
+    ensures group { IfOk result (λ v. all_as_written v ≡ group_of inner (as_written piece.entry)) }
+    ensures placed { IfOk result (λ v. AllByRecursion IsInPlace (all_as_written v)) }
 {
     match inner {
         Some(separator) => pieces_at(alloc, piece.bytes, piece.at, separator),
@@ -85,8 +86,8 @@ pub fn group_list(
     inner: Option<u8>,
 ) -> Result<Groups<'_, ()>, AllocError>
     requires { length text.now < 2 ^ 64 }
-    ensures groups { IfOk result (λ v. map seen_all v ≡ groups_of inner text.now) }
-    ensures placed { IfOk result (λ v. AllByRecursion (AllByRecursion IsInPlace) (map seen_all v)) }
+    ensures groups { IfOk result (λ v. map all_as_written v ≡ groups_of inner text.now) }
+    ensures placed { IfOk result (λ v. AllByRecursion (AllByRecursion IsInPlace) (map all_as_written v)) }
 {
     let mut groups = Few::new(alloc);
     let mut from = 0;
@@ -109,11 +110,11 @@ fn push_group<'a>(
     piece: Plain<'a>,
     inner: Option<u8>,
 ) -> Result<(), AllocError>
-    requires piece { IsInPlace (seen piece) }
-    requires placed { AllByRecursion (AllByRecursion IsInPlace) (map seen_all groups.old) }
-    ensures groups { OnOk result (map seen_all groups.new
-        ≡ map seen_all groups.old ++ map (group_of inner) (not_empty (seen piece.entry ∷ []))) }
-    ensures placed { OnOk result (AllByRecursion (AllByRecursion IsInPlace) (map seen_all groups.new)) }
+    requires piece { IsInPlace (as_written piece) }
+    requires placed { AllByRecursion (AllByRecursion IsInPlace) (map all_as_written groups.old) }
+    ensures groups { OnOk result (map all_as_written groups.new
+        ≡ map all_as_written groups.old ++ map (group_of inner) (not_empty (as_written piece.entry ∷ []))) }
+    ensures placed { OnOk result (AllByRecursion (AllByRecursion IsInPlace) (map all_as_written groups.new)) }
 {
     if piece.bytes.is_empty() {
         return Ok(());

@@ -1,7 +1,7 @@
 ghost use Rattle.std.specs.Prelude.{◌≡◌, ◌∷◌, [], IfOk, IfErr, OnOk, map};
 ghost use Rattle.std.specs.List.{AllByRecursion};
 ghost use Rattle.vx_scheme.specs.Native.{Refused};
-ghost use Rattle.vx_range.specs.Pieces.{seen, IsInPlace};
+ghost use Rattle.vx_range.specs.Pieces.{as_written, IsInPlace};
 ghost use Rattle.vx_range.specs.Reading.{IsNoConstruct};
 ghost use Rattle.vx_range.specs.Steps.Found.{IsPieceFound, IsGroupFound, AddsSpans, IsGroupMade, IsSyntaxOf};
 
@@ -33,10 +33,10 @@ pub(crate) trait Shape<L: Language>: Drop {
         domain: Domain,
         findings: &mut Findings,
     ) -> Result<(), RangeFault>
-        requires { IsInPlace (seen piece.now) }
-        ensures ok { OnOk result (IsPieceFound L.ReadsAs L.IsPast (L.outcome domain) (seen piece.now) findings.old findings.new
+        requires { IsInPlace (as_written piece.now) }
+        ensures ok { OnOk result (IsPieceFound L.ReadsAs L.IsPast (L.outcome domain) (as_written piece.now) findings.old findings.new
             (AddsSpans together (L.spans domain) findings.old.marks findings.new.marks self.old self.new)) }
-        ensures err { IfErr result (Refused (IsSyntaxOf (IsNoConstruct L.ReadsAs) (seen piece.now ∷ []))) };
+        ensures err { IfErr result (Refused (IsSyntaxOf (IsNoConstruct L.ReadsAs) (as_written piece.now ∷ []))) };
 }
 
 impl<L: Language> Shape<L> for Alternative<L::Version> {
@@ -87,10 +87,10 @@ pub(crate) fn read_group<L: Language, S: Shape<L>>(
     domain: Domain,
     findings: &mut Findings,
 ) -> Result<S, RangeFault>
-    requires { AllByRecursion IsInPlace (map seen pieces.now) }
-    ensures ok { IfOk result (λ shape. IsGroupFound L.ReadsAs L.IsPast (L.outcome domain) (map seen pieces.now) findings.old findings.new
+    requires { AllByRecursion IsInPlace (map as_written pieces.now) }
+    ensures ok { IfOk result (λ shape. IsGroupFound L.ReadsAs L.IsPast (L.outcome domain) (map as_written pieces.now) findings.old findings.new
         (IsGroupMade S.together (L.spans domain) findings.old.marks findings.new.marks shape)) }
-    ensures err { IfErr result (Refused (IsSyntaxOf (IsNoConstruct L.ReadsAs) (map seen pieces.now))) }
+    ensures err { IfErr result (Refused (IsSyntaxOf (IsNoConstruct L.ReadsAs) (map as_written pieces.now))) }
 {
     let mut shape = S::with_room(alloc, pieces.len())?;
     for i in 0..pieces.len() {

@@ -1,11 +1,11 @@
 ghost use Rattle.std.specs.Prelude.{◌≡◌, ◌+◌, ◌++◌, IfOk, OnOk};
-ghost use Rattle.vx_range.specs.Spans.{before, after, every, point, from, above, below, up_to, between};
+ghost use Rattle.vx_range.specs.Spans.{before, after, every, point, from, above, below, up_to, between, closed};
 
 use std::alloc::Global;
 use vx_scheme::{Cut, NoMemory, Scheme, Span, Spans};
 
 /// The mark of the next cut. Each cut lies in memory, so memory ends before the marks do.
-fn next_mark(marks: &mut u64) -> Result<u64, NoMemory>
+pub fn next_mark(marks: &mut u64) -> Result<u64, NoMemory>
     ensures { IfOk result (λ mark. (mark ≡ marks.old) × (marks.new ≡ marks.old + 1)) }
 {
     let mark = *marks;
@@ -130,5 +130,23 @@ pub fn push_between<V: Drop>(
     out.push(Span {
         lower: before(version, first),
         upper: before(end, second),
+    })
+}
+
+/// Appends `[V, W]`.
+pub fn push_closed<V: Drop>(
+    marks: &mut u64,
+    version: V,
+    end: V,
+    out: &mut Spans<V>,
+) -> Result<(), NoMemory>
+    ensures span { OnOk result (out.new ≡ out.old ++ closed marks.old version end) }
+    ensures marks { OnOk result (marks.new ≡ marks.old + 2) }
+{
+    let first = next_mark(marks)?;
+    let second = next_mark(marks)?;
+    out.push(Span {
+        lower: before(version, first),
+        upper: after(end, second),
     })
 }

@@ -6,3 +6,4 @@ pub mod Numerals
 pub mod Places
 pub mod Rows
 pub mod Runs
+pub mod Signs

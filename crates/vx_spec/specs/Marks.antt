@@ -1,5 +1,5 @@
 -- Texts cut at a byte, the mark.
-use Rattle.std.specs.Prelude.{◌≡◌, ◌≢◌, ℕ, List, [], ◌∷◌, ◌++◌, Option, Some, None}
+use Rattle.std.specs.Prelude.{◌≡◌, ◌≢◌, ◌==◌, if◌then◌else◌, ℕ, List, [], ◌∷◌, ◌++◌, Option, Some, None}
 use Rattle.std.specs.List.{AllByRecursion}
 
 -- the byte stands nowhere in the text
@@ -15,6 +15,16 @@ marked mark (Some part) = mark ∷ part
 pub record IsCut (mark : ℕ) (text front : List ℕ) (behind : Option (List ℕ)) : Type 0 where
   pub joined : text ≡ front ++ marked mark behind
   pub first : Lacks mark front
+
+-- what stands before the first mark: all, where there is none
+abbrev pub before_mark : ℕ → List ℕ → List ℕ
+before_mark mark [] = []
+before_mark mark (b ∷ text) = if b == mark then [] else b ∷ before_mark mark text
+
+-- what stands behind the first mark, where there is one
+abbrev pub behind_mark : ℕ → List ℕ → Option (List ℕ)
+behind_mark mark [] = None
+behind_mark mark (b ∷ text) = if b == mark then Some text else behind_mark mark text
 
 -- a part that may be left out and its mark, in front of the rest
 abbrev pub in_front : ℕ → Option (List ℕ) → List ℕ → List ℕ

@@ -1,12 +1,12 @@
 -- Decimal numerals of any length.
-use Rattle.std.specs.Prelude.{ℕ, ◌+◌, ◌-◌, ◌*◌, ◌^◌, ◌&&◌, ◌==◌, if◌then◌else◌, Bool, nat_lt, List, [], ◌∷◌, length, map}
+use Rattle.std.specs.Prelude.{ℕ, ◌+◌, ◌-◌, ◌*◌, ◌^◌, ◌==◌, if◌then◌else◌, Bool, List, [], ◌∷◌, length, map}
 use Rattle.std.specs.Int.Digits.{digits_of}
 use Rattle.std.specs.Char.{is_ascii_digit}
-use Rattle.std.specs.List.{list_all}
+use Rattle.vx_spec.specs.Runs.{is_made_of}
 
 -- one digit or more, and nothing else
 abbrev pub is_numeral : List ℕ → Bool
-is_numeral text = nat_lt 0 (length text) && list_all is_ascii_digit text
+is_numeral text = is_made_of is_ascii_digit text
 
 -- each digit times the power of ten of its place
 abbrev pub value : List ℕ → ℕ

@@ -1,6 +1,6 @@
 -- Maximal runs of bytes.
-use Rattle.std.specs.Prelude.{◌==◌, ◌||◌, ◌-◌, not, ℕ, Bool, false, List, [], ◌∷◌, take, drop, length}
-use Rattle.std.specs.List.{prefix_len, suffix_len}
+use Rattle.std.specs.Prelude.{◌==◌, ◌||◌, ◌&&◌, ◌-◌, not, nat_lt, ℕ, Bool, false, List, [], ◌∷◌, take, drop, length}
+use Rattle.std.specs.List.{list_all, prefix_len, suffix_len}
 
 -- a space or a tab
 abbrev pub is_blank : ℕ → Bool
@@ -14,6 +14,10 @@ is_solid b = not (is_blank b)
 abbrev pub begins : (ℕ → Bool) → List ℕ → Bool
 begins test [] = false
 begins test (b ∷ text) = test b
+
+-- one byte or more, and each byte passes
+abbrev pub is_made_of : (ℕ → Bool) → List ℕ → Bool
+is_made_of test text = nat_lt 0 (length text) && list_all test text
 
 -- the maximal run of bytes that pass at the front of the text
 abbrev pub run : (ℕ → Bool) → List ℕ → List ℕ

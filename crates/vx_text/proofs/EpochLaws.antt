@@ -8,7 +8,8 @@ use Rattle.vx_spec.specs.Runs.{begins}
 use Rattle.vx_spec.proofs.EndLaws.{lacks_by, lacks_append, one_first_cut, one_last_cut}
 use Rattle.vx_spec.proofs.TextLaws.{each_append, each_by_test}
 use Rattle.vx_text.specs.Past.{NonePast}
-use Rattle.vx_text.specs.EpochParts.{Parts, HaveForms, IsApart, IsMadeOf, colon, hyphen, whole, epoch_value, is_epoch, is_optional}
+use Rattle.vx_spec.specs.Signs.{colon, hyphen}
+use Rattle.vx_text.specs.EpochParts.{Parts, HaveForms, IsApart, IsMadeOf, whole, epoch_value, is_epoch, is_optional}
 use Rattle.vx_text.proofs.PastLaws.{no_digit, none_behind, none_digits, none_front, none_join, numeral_bytes, numeral_within}
 
 -- ---- an epoch

@@ -4,6 +4,7 @@ use Rattle.std.specs.Prelude.{◌≡◌, ℕ, Bool, true, List, ◌++◌, Option
 use Rattle.std.specs.Option.{option_copied}
 use Rattle.vx_spec.specs.Marks.{IsFirstCut, IsLastCut, Lacks, in_front, marked}
 use Rattle.vx_spec.specs.Numerals.{is_numeral, value}
+use Rattle.vx_spec.specs.Signs.{colon, hyphen}
 use Rattle.vx_text.specs.declared.epochs.EpochParts.{EpochParts}
 
 -- the parts of a text, two of which may be left out
@@ -11,14 +12,6 @@ pub record Parts : Type 0 where
   pub epoch : Option (List ℕ)
   pub main : List ℕ
   pub last : Option (List ℕ)
-
--- the byte ':'
-abbrev pub colon : ℕ
-colon = 58
-
--- the byte '-'
-abbrev pub hyphen : ℕ
-hyphen = 45
 
 -- the whole text: the epoch and ':', the main part, '-' and the last part
 abbrev pub whole : Parts → List ℕ
@@ -58,6 +51,14 @@ NotMade main_form last_form text = (p : Parts) → ¬ (IsMadeOf main_form last_f
 -- the text is made of some such parts
 abbrev pub IsMade : (List ℕ → Bool) → (List ℕ → Bool) → List ℕ → Type 0
 IsMade main_form last_form text = (p : Parts) × IsMadeOf main_form last_form text p
+
+-- The text spells the version by its parts, with numerals of any length: it is made of parts that have their forms, and the
+-- version is the one that they stand for.
+pub record SpellsByParts {V : Type 0} (main_form last_form : List ℕ → Bool) (version_of : List ℕ → Parts → V) (text : List ℕ) (v : V) : Type 0 where
+  pub parts : Parts
+  pub joined : text ≡ whole parts
+  pub form : HaveForms main_form last_form parts
+  pub values : v ≡ version_of text parts
 
 -- A text cut apart: at its first ':', and behind that at its last '-'.
 pub record IsApart (text : List ℕ) (p : Parts) : Type 0 where

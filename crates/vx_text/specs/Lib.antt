@@ -1,3 +1,4 @@
+pub mod Begun
 pub mod EpochParts
 pub mod Escapes
 pub mod Folding

@@ -50,3 +50,9 @@ pub record ArePieces (separator : ℕ) (text : List ℕ) (pieces : List Piece) :
   pub joined : text ≡ join_with_byte separator parts
   pub apart : AllByRecursion (Lacks separator) parts
   pub stand : AreTheirPieces 0 parts pieces
+
+-- the parts that are not empty
+abbrev pub kept_parts : List (List ℕ) → List (List ℕ)
+kept_parts [] = []
+kept_parts ([] ∷ parts) = kept_parts parts
+kept_parts ((b ∷ part) ∷ parts) = (b ∷ part) ∷ kept_parts parts

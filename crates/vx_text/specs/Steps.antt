@@ -1,2 +1,3 @@
 -- Words that the contracts of single steps need, and no public one.
+pub mod Between
 pub mod Places

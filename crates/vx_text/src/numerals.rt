@@ -4,6 +4,7 @@ ghost use Rattle.std.specs.List.{list_all};
 ghost use Rattle.vx_spec.specs.Numerals.{is_numeral, value};
 ghost use Rattle.vx_text.specs.Numeral.{IsReadAs};
 
+use crate::runs::{Digits, is_made_of};
 use thiserror::Error;
 
 /// So many digits are below 2^64, whichever they are.
@@ -21,16 +22,10 @@ pub enum NumeralFault {
 }
 
 /// Whether the text is one or more ASCII digits. It takes no memory.
-pub fn is_numeral(text: &str) -> bool
+pub fn is_numeral(text: &[u8]) -> bool
     ensures { result ≡ is_numeral text.now }
 {
-    !text.is_empty() && all_digits(text)
-}
-
-fn all_digits(text: &str) -> bool
-    ensures { result ≡ list_all is_ascii_digit text.now }
-{
-    text.as_bytes().iter().all(|byte| byte.is_ascii_digit())
+    is_made_of::<Digits>(text)
 }
 
 /// The number that the digits write; leading zeros are accepted. `NotDigits` comes exactly where the text is no
@@ -69,7 +64,7 @@ pub(crate) fn short_value(text: &[u8]) -> Option<u64>
 fn long_numeral(text: &str) -> Result<u128, NumeralFault>
     ensures { IsReadAs text.now result }
 {
-    if !is_numeral(text) {
+    if !is_numeral(text.as_bytes()) {
         return Err(NumeralFault::NotDigits);
     }
     match text.parse::<u128>() {

@@ -1,6 +1,6 @@
 ghost use Rattle.std.specs.Prelude.{◌≡◌, ◌≤◌, ◌<◌, ◌+◌, ℕ, Bool, length};
-ghost use Rattle.std.specs.List.{prefix_len, suffix_len};
-ghost use Rattle.vx_spec.specs.Runs.{run, past, without_end, trimmed};
+ghost use Rattle.std.specs.List.{list_all, prefix_len, suffix_len};
+ghost use Rattle.vx_spec.specs.Runs.{is_made_of, run, past, without_end, trimmed};
 
 /// A class of bytes, of which a text can have a run.
 pub trait ByteClass {
@@ -62,6 +62,32 @@ impl ByteClass for Alphabetic {
     fn is_one(byte: u8) -> bool {
         byte.is_ascii_alphabetic()
     }
+}
+
+/// The ASCII letters and digits.
+pub struct Alphanumeric;
+
+impl ByteClass for Alphanumeric {
+    ghost use Rattle.std.specs.Char.{is_ascii_alphanumeric};
+
+    ghost holds = { is_ascii_alphanumeric };
+
+    fn is_one(byte: u8) -> bool {
+        byte.is_ascii_alphanumeric()
+    }
+}
+
+/// Whether the text is one byte of the class or more, and nothing else. It takes no memory.
+pub fn is_made_of<C: ByteClass>(text: &[u8]) -> bool
+    ensures { result ≡ is_made_of C.holds text.now }
+{
+    !text.is_empty() && all_of::<C>(text)
+}
+
+fn all_of<C: ByteClass>(text: &[u8]) -> bool
+    ensures { result ≡ list_all C.holds text.now }
+{
+    text.iter().all(|byte| C::is_one(*byte))
 }
 
 fn leading<C: ByteClass>(text: &[u8]) -> usize

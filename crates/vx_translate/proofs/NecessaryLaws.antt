@@ -42,8 +42,7 @@ use Rattle.relation_ranges.specs.Rpm.Spans as rpm_spans
 use Rattle.relation_ranges.specs.Laws.GemApart as gem_laws
 use Rattle.relation_ranges.specs.Laws.NoEnd.{relation_no_end}
 use Rattle.relation_ranges.specs.Laws.RpmApart as rpm_laws
-use Rattle.vx_translate.specs.Names.{IsRefused}
-use Rattle.vx_translate.specs.Necessary.{ProvesNoEnd}
+use Rattle.vx_translate.specs.Names.{IsRefused, ProvesNoEnd}
 use Rattle.vx_translate.specs.declared.refusal.Refusal.TheVariants as refusal_of
 use Rattle.vx_translate.proofs.NoListLaws.{has_no_list}
 

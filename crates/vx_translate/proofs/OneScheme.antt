@@ -1,21 +1,9 @@
--- What is so of each scheme is so of the one that is named, and of the one that the head of a text names.
+-- What is so of each scheme is so of the one that the head of a text names.
 use Rattle.std.proofs.Common.{◌≡◌, ◌≢◌, ◌⊎◌, ℕ, List, sym, subst, ◌∙◌, inl, inr}
 use Rattle.vx_scheme.specs.declared.name.SchemeName.{SchemeName}
-use Rattle.vx_scheme.specs.declared.name.SchemeName.TheVariants.{Npm, Pypi, Maven, Gem, Deb, Rpm, Nuget, Cargo}
 use Rattle.vx_vers.specs.Heads.{NoHead}
 use Rattle.vx_vers.proofs.HeadLaws.{one_head}
 use Rattle.vx_translate.specs.VersTexts.{OfHead, ComesByHead}
-
--- what is so of each scheme is so of all
-pub by_scheme : (P : SchemeName → Type 0) → P Npm → P Pypi → P Maven → P Gem → P Deb → P Rpm → P Nuget → P Cargo → (name : SchemeName) → P name
-by_scheme P npm pypi maven gem deb rpm nuget cargo Npm = npm
-by_scheme P npm pypi maven gem deb rpm nuget cargo Pypi = pypi
-by_scheme P npm pypi maven gem deb rpm nuget cargo Maven = maven
-by_scheme P npm pypi maven gem deb rpm nuget cargo Gem = gem
-by_scheme P npm pypi maven gem deb rpm nuget cargo Deb = deb
-by_scheme P npm pypi maven gem deb rpm nuget cargo Rpm = rpm
-by_scheme P npm pypi maven gem deb rpm nuget cargo Nuget = nuget
-by_scheme P npm pypi maven gem deb rpm nuget cargo Cargo = cargo
 
 module _ (P Q : SchemeName → Type 0) (C : Type 0) (text : List ℕ) (both : (name : SchemeName) → P name → Q name → C) where
   pub by_head : OfHead P text → OfHead Q text → C

@@ -3,6 +3,7 @@
 use Rattle.std.specs.Prelude.{◌≢◌, ℕ, Bool, List, Option}
 use Rattle.vx_scheme.specs.declared.name.SchemeName.{SchemeName}
 use Rattle.vx_scheme.specs.declared.domain.Domain.{Domain}
+use Rattle.vx_scheme.specs.declared.range_fault.EndKind.{EndKind}
 use Rattle.vx_translate.specs.Backward.{TranslatesBack, KeepsMembers, RefusesBack}
 use Rattle.vx_translate.specs.Checking.{TellsCheck, RefusesCheck}
 use Rattle.vx_translate.specs.Canonical.{PrintsSimplified, MeansSame, RefusesCanonical}
@@ -35,6 +36,10 @@ HoldsNone name domain text = of_scheme (λ row. HoldsNothing row.scheme row.lang
 abbrev pub IsRefused : SchemeName → Domain → List ℕ → Refusal → Type 0
 IsRefused name domain text refusal =
     refusal ≢ refusal_of.NoMemory → of_scheme (λ row. RefusesForward row.scheme row.language domain text refusal) name
+
+-- what a refusal for want of an end of this kind at this place proves
+abbrev pub ProvesNoEnd : SchemeName → Domain → List ℕ → EndKind → ℕ → Type 0
+ProvesNoEnd name domain text kind at = of_scheme (λ row. row.ProvesNoEnd domain text kind at) name
 
 -- ---- from VERS
 

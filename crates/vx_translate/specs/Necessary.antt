@@ -1,11 +1,9 @@
--- What a refusal for want of an end proves, by the name of a scheme: no list of constraints holds just the versions of the domain
+-- What a refusal for want of an end proves: no list of constraints holds just the versions of the domain
 -- that the refused construct holds of. Of PyPI's `===T` it proves this where T is, letter case aside, the normal text of a version
 -- of the domain.
 use Rattle.std.specs.Prelude.{◌≡◌, ◌≢◌, ℕ, max, Bool, List, [], ◌∷◌}
 use Rattle.std.specs.List.{AllByRecursion}
 use Rattle.vx_scheme.specs.declared.domain.Domain.{Domain}
-use Rattle.vx_scheme.specs.declared.name.SchemeName.{SchemeName}
-use Rattle.vx_scheme.specs.declared.name.SchemeName.TheVariants.{Npm, Pypi, Maven, Gem, Deb, Rpm, Nuget, Cargo}
 use Rattle.vx_scheme.specs.declared.range_fault.EndKind.{EndKind}
 use Rattle.vx_scheme.specs.declared.range_fault.EndKind.TheVariants.{ArbitraryEquality}
 use Rattle.vx_scheme.specs.declared.scheme.Scheme.{Ghosts as Scheme}
@@ -55,16 +53,20 @@ pub record HasNoList {S K C V : Type 0} (scheme : Scheme S V) (domain : Domain) 
   pub lists : NoListHolds scheme domain size (holds ends.construct) (λ n. Tells n ends.construct)
   pub no_list : kind ≢ ArbitraryEquality → (list : List (Constraint V)) → EachVersion scheme.IsVersion list → ¬ ((x : V) → scheme.IsVersion x → InDomain scheme domain x → meaning scheme.order x list ≡ holds ends.construct x)
 
--- What the refusal proves of a text of the named scheme. Of five schemes it never comes.
-abbrev pub ProvesNoEnd : SchemeName → Domain → List ℕ → EndKind → ℕ → Type 0
-ProvesNoEnd Npm domain text kind at = ⊥
-ProvesNoEnd Pypi domain text kind at =
-    HasNoList pypi_scheme domain pypi_apart.size pypi.IsCut pypi.ReadsAs (pypi_refusals.outcome domain) pypi_holds.holds (pypi_apart.AreWitnesses domain) text kind at
-ProvesNoEnd Maven domain text kind at = ⊥
-ProvesNoEnd Gem domain text kind at =
-    HasNoList gem_scheme domain gem_apart.size gem.IsCut gem.ReadsAs (relation_outcome (gem_spans.outcome domain)) (relation_holds gem_holds.holds) (relation_tells gem_apart.Tells) text kind at
-ProvesNoEnd Deb domain text kind at = ⊥
-ProvesNoEnd Rpm domain text kind at =
-    HasNoList rpm_scheme domain rpm_apart.size rpm.IsCut rpm.ReadsAs (relation_outcome (rpm_spans.outcome domain)) (relation_holds rpm_holds.holds) (relation_tells rpm_apart.Tells) text kind at
-ProvesNoEnd Nuget domain text kind at = ⊥
-ProvesNoEnd Cargo domain text kind at = ⊥
+-- ---- by scheme
+
+-- Of a scheme all of whose constructs have their ends the refusal never comes.
+abbrev pub NeverComes : Domain → List ℕ → EndKind → ℕ → Type 0
+NeverComes domain text kind at = ⊥
+
+abbrev pub PypiHasNoList : Domain → List ℕ → EndKind → ℕ → Type 0
+PypiHasNoList domain =
+    HasNoList pypi_scheme domain pypi_apart.size pypi.IsCut pypi.ReadsAs (pypi_refusals.outcome domain) pypi_holds.holds (pypi_apart.AreWitnesses domain)
+
+abbrev pub GemHasNoList : Domain → List ℕ → EndKind → ℕ → Type 0
+GemHasNoList domain =
+    HasNoList gem_scheme domain gem_apart.size gem.IsCut gem.ReadsAs (relation_outcome (gem_spans.outcome domain)) (relation_holds gem_holds.holds) (relation_tells gem_apart.Tells)
+
+abbrev pub RpmHasNoList : Domain → List ℕ → EndKind → ℕ → Type 0
+RpmHasNoList domain =
+    HasNoList rpm_scheme domain rpm_apart.size rpm.IsCut rpm.ReadsAs (relation_outcome (rpm_spans.outcome domain)) (relation_holds rpm_holds.holds) (relation_tells rpm_apart.Tells)

@@ -2,33 +2,13 @@
 use Rattle.std.specs.Prelude.{◌*◌, ◌≤◌, ℕ, List, length}
 use Rattle.vx_scheme.specs.declared.domain.Domain.{Domain}
 use Rattle.vx_scheme.specs.declared.name.SchemeName.{SchemeName}
-use Rattle.vx_scheme.specs.declared.name.SchemeName.TheVariants.{Npm, Pypi, Maven, Gem, Deb, Rpm, Nuget, Cargo}
 use Rattle.vx_scheme.specs.declared.native.Native.{Ghosts as Language}
 use Rattle.vx_scheme.specs.declared.scheme.Scheme.{Ghosts as Scheme}
 use Rattle.vx_scheme.specs.declared.span.Span.{Span}
 use Rattle.vx_range.specs.Sizes.{cut_count}
 use Rattle.vx_vers.specs.declared.constraints.Constraint.{Constraint}
-use Rattle.npm_range.specs.Sizes as npm
-use Rattle.pep440_range.specs.Sizes as pypi
-use Rattle.bracket_ranges.specs.Maven.Sizes as maven
-use Rattle.bracket_ranges.specs.Nuget.Sizes as nuget
-use Rattle.relation_ranges.specs.Deb.Sizes as deb
-use Rattle.relation_ranges.specs.Gem.Sizes as gem
-use Rattle.relation_ranges.specs.Rpm.Sizes as rpm
-use Rattle.cargo_range.specs.Sizes as cargo
 use Rattle.vx_translate.specs.Table.{of_scheme}
 use Rattle.vx_translate.specs.VersTexts.{SpellsVers}
-
--- the range text of the named scheme has n constructs; a hyphen range is one
-abbrev pub HasConstructs : SchemeName → List ℕ → ℕ → Type 0
-HasConstructs Npm text n = npm.HasConstructs text n
-HasConstructs Pypi text n = pypi.HasConstructs text n
-HasConstructs Maven text n = maven.HasConstructs text n
-HasConstructs Gem text n = gem.HasConstructs text n
-HasConstructs Deb text n = deb.HasConstructs text n
-HasConstructs Rpm text n = rpm.HasConstructs text n
-HasConstructs Nuget text n = nuget.HasConstructs text n
-HasConstructs Cargo text n = cargo.HasConstructs text n
 
 -- The answer is read as a list of at most twice as many constraints as there are constructs.
 pub record IsShort {S V : Type 0} (scheme : Scheme S V) (AreCounted : ℕ → Type 0) (out : List ℕ) : Type 0 where
@@ -40,7 +20,7 @@ pub record IsShort {S V : Type 0} (scheme : Scheme S V) (AreCounted : ℕ → Ty
 
 -- so it is with the constructs of the range text
 abbrev pub IsShortRange : SchemeName → List ℕ → List ℕ → Type 0
-IsShortRange name text out = of_scheme (λ row. IsShort row.scheme (HasConstructs name text) out) name
+IsShortRange name text out = of_scheme (λ row. IsShort row.scheme (row.HasConstructs text) out) name
 
 -- ---- by the cuts that are made
 

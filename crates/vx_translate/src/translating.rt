@@ -1,7 +1,6 @@
 ghost use Rattle.std.specs.Prelude.{◌≡◌, ℕ, IfOk, IfErr, Err};
 ghost use Rattle.vx_scheme.specs.declared.range_fault.EndKind.{EndKind};
-ghost use Rattle.vx_translate.specs.Names.{IsTranslated, IsSameRange, IsRefused, HoldsNone};
-ghost use Rattle.vx_translate.specs.Necessary.{ProvesNoEnd};
+ghost use Rattle.vx_translate.specs.Names.{IsTranslated, IsSameRange, IsRefused, HoldsNone, ProvesNoEnd};
 ghost use Rattle.vx_translate.specs.Sizes.{IsShortRange, HasNoMoreThanCuts};
 
 use crate::forward::translate;

@@ -1,19 +1,20 @@
 -- Texts without their blanks, and the head of a text.
-use Rattle.std.proofs.Common.{lit<, ◌≡◌, ◌<◌, ◌++◌, eqb, cond, not, ℕ, Bool, true, false, List, [], ◌∷◌, get_or, refl, sym, ap, subst, ◌∙◌, inl, inr, arith, Some, None, append-nil, append_assoc}
-use Rattle.std.specs.Prelude.{codes, filter}
+use Rattle.std.proofs.Common.{lit<, ◌≡◌, ◌<◌, ◌++◌, eqb, not, ℕ, Bool, true, false, List, [], ◌∷◌, refl, sym, ap, subst, ◌∙◌, inl, inr, arith, Some, None, append-nil, append_assoc}
+use Rattle.std.specs.Prelude.{bytes_eq, codes, filter}
 use Rattle.std.specs.Char.{to_ascii_lowercase}
 use Rattle.std.specs.List.{list_all}
 use Rattle.std.proofs.lemmas.Bool.{cases_Bool, and_parts, and_from}
 use Rattle.std.proofs.lemmas.Bool.Decides.{nat_tests}
 use Rattle.std.proofs.lemmas.List.{map-append}
 use Rattle.std.proofs.lemmas.List.Elements.{filter-append}
+use Rattle.std.proofs.lemmas.Slice.Eq.{bytes_eq-Decides}
 use Rattle.vx_spec.specs.Marks.{IsCut, Lacks}
 use Rattle.vx_spec.specs.Runs.{is_solid}
 use Rattle.vx_spec.proofs.MarkLaws.{one_cut}
 use Rattle.vx_spec.proofs.EndLaws.{lacks_by}
 use Rattle.vx_scheme.specs.declared.name.SchemeName.{SchemeName}
-use Rattle.vx_scheme.specs.declared.name.SchemeName.TheVariants.{Npm, Pypi, Maven, Gem, Deb, Rpm, Nuget, Cargo}
 use Rattle.vx_scheme.specs.Names.{text_of}
+use Rattle.vx_scheme.proofs.NameLaws.{by_test, one_name}
 use Rattle.vx_text.specs.Folding.{lowered}
 use Rattle.vx_vers.specs.Heads.{HasHead, IsNamed, solid}
 
@@ -68,16 +69,17 @@ is_not_itself c = grind (arith, nat_tests)
 pub lacks_by_test : (c : ℕ) (text : List ℕ) → list_all (is_not c) text ≡ true → Lacks c text
 lacks_by_test c text all = lacks_by (is_not c) c (is_not_itself c) text all
 
--- the head has no '/' in it, and the name no ':'
+-- the head has no '/' in it, no blank and no capital
 head_lacks : (name : SchemeName) → Lacks 47 (codes "vers:" ++ text_of name)
-head_lacks Npm = lacks_by_test 47 (codes "vers:" ++ text_of Npm) refl
-head_lacks Pypi = lacks_by_test 47 (codes "vers:" ++ text_of Pypi) refl
-head_lacks Maven = lacks_by_test 47 (codes "vers:" ++ text_of Maven) refl
-head_lacks Gem = lacks_by_test 47 (codes "vers:" ++ text_of Gem) refl
-head_lacks Deb = lacks_by_test 47 (codes "vers:" ++ text_of Deb) refl
-head_lacks Rpm = lacks_by_test 47 (codes "vers:" ++ text_of Rpm) refl
-head_lacks Nuget = lacks_by_test 47 (codes "vers:" ++ text_of Nuget) refl
-head_lacks Cargo = lacks_by_test 47 (codes "vers:" ++ text_of Cargo) refl
+head_lacks name = lacks_by_test 47 (codes "vers:" ++ text_of name) (by_test (λ n. list_all (is_not 47) (codes "vers:" ++ text_of n)) refl name)
+
+pub head_solid : (name : SchemeName) → list_all is_solid (codes "vers:" ++ text_of name) ≡ true
+head_solid = by_test (λ name. list_all is_solid (codes "vers:" ++ text_of name)) refl
+
+pub head_named : (name : SchemeName) → IsNamed (codes "vers:" ++ text_of name) name
+head_named name =
+    let head = codes "vers:" ++ text_of name in
+    (bytes_eq-Decides (lowered head) head).0 (by_test (λ n. bytes_eq (lowered (codes "vers:" ++ text_of n)) (codes "vers:" ++ text_of n)) refl name)
 
 vers_lacks : Lacks 58 (codes "vers")
 vers_lacks = lacks_by_test 58 (codes "vers") refl
@@ -85,40 +87,8 @@ vers_lacks = lacks_by_test 58 (codes "vers") refl
 front_lacks : (front : List ℕ) (name : SchemeName) → IsNamed front name → Lacks 47 front
 front_lacks front name is = lacks_lowered 47 (lit< tt) front (subst (Lacks 47) (sym is) (head_lacks name))
 
--- the name that is written so
-name_read : List ℕ → SchemeName
-name_read text =
-    cond (eqb (get_or text 0 0) 110) (cond (eqb (get_or text 1 0) 112) Npm Nuget)
-    (cond (eqb (get_or text 0 0) 112) Pypi
-    (cond (eqb (get_or text 0 0) 109) Maven
-    (cond (eqb (get_or text 0 0) 103) Gem
-    (cond (eqb (get_or text 0 0) 100) Deb
-    (cond (eqb (get_or text 0 0) 114) Rpm Cargo)))))
-
-name_is : (name : SchemeName) → name_read (text_of name) ≡ name
-unfolding name_read
-name_is Npm = refl
-name_is Pypi = refl
-name_is Maven = refl
-name_is Gem = refl
-name_is Deb = refl
-name_is Rpm = refl
-name_is Nuget = refl
-name_is Cargo = refl
-
-pub one_name : (a b : SchemeName) → text_of a ≡ text_of b → a ≡ b
-one_name a b e = sym (name_is a) ∙ ap name_read e ∙ name_is b
-
--- a head is in lower case, and has no blank
 head_stays : (name : SchemeName) → IsNamed (solid (codes "vers:" ++ text_of name)) name
-head_stays Npm = refl
-head_stays Pypi = refl
-head_stays Maven = refl
-head_stays Gem = refl
-head_stays Deb = refl
-head_stays Rpm = refl
-head_stays Nuget = refl
-head_stays Cargo = refl
+head_stays name = ap lowered (filter_all is_solid (codes "vers:" ++ text_of name) (head_solid name)) ∙ head_named name
 
 pub usual_named : (front : List ℕ) (name : SchemeName) → text_of name ≡ front → IsNamed (solid (codes "vers:" ++ front)) name
 usual_named front name e = subst (λ t. IsNamed (solid (codes "vers:" ++ t)) name) e (head_stays name)

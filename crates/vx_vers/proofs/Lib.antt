@@ -4,7 +4,6 @@ pub mod HeadLaws
 pub mod OneList
 pub mod PartLaws
 pub mod Passed
-pub mod Pushed
 pub mod Ranked
 pub mod ReadLaws
 pub mod Sides

@@ -17,7 +17,8 @@ use Rattle.vx_text.specs.Escapes.{unescaped}
 use Rattle.vx_vers.specs.declared.constraints.Constraint.{Constraint}
 use Rattle.vx_vers.specs.declared.fault.VersFault.{VersFault}
 use Rattle.vx_vers.specs.declared.fault.VersFault.TheVariants as fault_of
-use Rattle.vx_vers.specs.Grammar.{AreParts, EachWithin, HasForm, HasStar, IsListOf, IsStarAlone, IsWritten, NoStar, SpellEach, SpellsConstraint, SpellsSolid, kept_parts}
+use Rattle.vx_text.specs.Pieces.{kept_parts}
+use Rattle.vx_vers.specs.Grammar.{AreParts, EachWithin, HasForm, HasStar, IsListOf, IsStarAlone, IsWritten, NoStar, SpellEach, SpellsConstraint, SpellsSolid}
 use Rattle.vx_vers.specs.Refusals.{HasDuplicate, HasEqual, HasFirstFault, HasVersionFault, IsApart, IsFirstDuplicate, IsFormless, LacksForm, RefusesPart, RefusesSolid, RefusesWritten, SpellsWithin, numbered_texts}
 use Rattle.vx_vers.specs.Sorted.{IsSorted}
 use Rattle.vx_vers.proofs.HeadLaws.{one_head}

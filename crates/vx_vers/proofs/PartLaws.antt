@@ -12,7 +12,8 @@ use Rattle.vx_spec.specs.Marks.{IsCut, Lacks}
 use Rattle.vx_spec.specs.Runs.{is_solid}
 use Rattle.vx_spec.proofs.EndLaws.{lacks_by}
 use Rattle.vx_text.proofs.Joins.{split_lacks, split_some}
-use Rattle.vx_vers.specs.Grammar.{AreParts, HasStar, NoStar, kept_parts}
+use Rattle.vx_text.specs.Pieces.{kept_parts}
+use Rattle.vx_vers.specs.Grammar.{AreParts, HasStar, NoStar}
 use Rattle.vx_vers.specs.Heads.{solid}
 use Rattle.vx_vers.specs.Steps.Reading.{IsPlainIf, is_plain, is_some_part, is_star}
 use Rattle.vx_vers.proofs.HeadLaws.{all_behind}

@@ -10,7 +10,8 @@ use Rattle.vx_text.proofs.Joins.{parts_behind, split_cut}
 use Rattle.vx_vers.specs.declared.constraints.Constraint.{Constraint}
 use Rattle.vx_vers.specs.declared.fault.VersFault.{VersFault}
 use Rattle.vx_vers.specs.declared.fault.VersFault.TheVariants as fault_of
-use Rattle.vx_vers.specs.Grammar.{EachWithin, NoStar, SpellEach, SpellsConstraint, kept_parts}
+use Rattle.vx_text.specs.Pieces.{kept_parts}
+use Rattle.vx_vers.specs.Grammar.{EachWithin, NoStar, SpellEach, SpellsConstraint}
 use Rattle.vx_vers.specs.Refusals.{RefusesPart, RefusesWritten, numbered_texts}
 use Rattle.vx_vers.specs.Steps.Numbering.{IsSettledAs}
 use Rattle.vx_vers.specs.Steps.Reading.{IsPartReadAs, IsPushed, IsReadNext, IsReadUpTo, IsWrittenReadAs, Refused, RefusesNext}

@@ -11,7 +11,6 @@ use Rattle.vx_spec.specs.Runs.{is_solid}
 use Rattle.vx_spec.proofs.EndLaws.{lacks_append}
 use Rattle.vx_spec.proofs.TextLaws.{each_append, each_by_test, each_joined, test_by_each}
 use Rattle.vx_scheme.specs.declared.name.SchemeName.{SchemeName}
-use Rattle.vx_scheme.specs.declared.name.SchemeName.TheVariants.{Npm, Pypi, Maven, Gem, Deb, Rpm, Nuget, Cargo}
 use Rattle.vx_scheme.specs.Names.{text_of}
 use Rattle.vx_scheme.specs.Scheme.{TextLaws}
 use Rattle.vx_text.specs.Escapes.{escaped, is_left, unescaped}
@@ -20,11 +19,12 @@ use Rattle.vx_vers.specs.declared.constraints.Comparator.{Comparator}
 use Rattle.vx_vers.specs.declared.constraints.Comparator.TheVariants.{Equal as EqualTo, NotEqual as NotEqualTo, Less as LessThan, LessEqual as AtMost, Greater as GreaterThan, GreaterEqual as AtLeast}
 use Rattle.vx_vers.specs.declared.constraints.Constraint.{Constraint}
 use Rattle.vx_vers.specs.Again.{EachWritable, IsSameList, IsWritable, SpellsSame}
-use Rattle.vx_vers.specs.Grammar.{AreParts, EachWithin, IsListOf, IsSigned, IsStarAlone, NoStar, SpellEach, SpellsConstraint, SpellsSolid, Writes, kept_parts}
-use Rattle.vx_vers.specs.Heads.{IsNamed, solid}
+use Rattle.vx_text.specs.Pieces.{kept_parts}
+use Rattle.vx_vers.specs.Grammar.{AreParts, EachWithin, IsListOf, IsSigned, IsStarAlone, NoStar, SpellEach, SpellsConstraint, SpellsSolid, Writes}
+use Rattle.vx_vers.specs.Heads.{solid}
 use Rattle.vx_vers.specs.Sorted.{IsSorted}
 use Rattle.vx_vers.specs.Texts.{constraint_text, constraints_text, sign, vers_text}
-use Rattle.vx_vers.proofs.HeadLaws.{filter_all, lacks_by_test}
+use Rattle.vx_vers.proofs.HeadLaws.{filter_all, head_named, head_solid, lacks_by_test}
 
 -- ---- no blanks
 
@@ -33,26 +33,6 @@ IsSolid b = is_solid b ≡ true
 
 solid_test : (text : List ℕ) → list_all is_solid text ≡ true → AllByRecursion IsSolid text
 solid_test text all = each_by_test IsSolid is_solid text (λ b t. t) all
-
-head_solid : (name : SchemeName) → AllByRecursion IsSolid (codes "vers:" ++ text_of name)
-head_solid Npm = solid_test (codes "vers:" ++ text_of Npm) refl
-head_solid Pypi = solid_test (codes "vers:" ++ text_of Pypi) refl
-head_solid Maven = solid_test (codes "vers:" ++ text_of Maven) refl
-head_solid Gem = solid_test (codes "vers:" ++ text_of Gem) refl
-head_solid Deb = solid_test (codes "vers:" ++ text_of Deb) refl
-head_solid Rpm = solid_test (codes "vers:" ++ text_of Rpm) refl
-head_solid Nuget = solid_test (codes "vers:" ++ text_of Nuget) refl
-head_solid Cargo = solid_test (codes "vers:" ++ text_of Cargo) refl
-
-head_named : (name : SchemeName) → IsNamed (codes "vers:" ++ text_of name) name
-head_named Npm = refl
-head_named Pypi = refl
-head_named Maven = refl
-head_named Gem = refl
-head_named Deb = refl
-head_named Rpm = refl
-head_named Nuget = refl
-head_named Cargo = refl
 
 sign_solid : (c : Comparator) → AllByRecursion IsSolid (sign c)
 sign_solid EqualTo = tt
@@ -233,7 +213,7 @@ module _ {V : Type 0} (order : V → V → Ordering) (laws : IsTotalOrder order)
   whole_solid name list =
       filter_all is_solid (vers_text name normal list)
       (test_by_each IsSolid is_solid (vers_text name normal list) (λ b t. t)
-      (each_append IsSolid (codes "vers:" ++ text_of name) (codes "/" ++ constraints_text normal list) (head_solid name) (refl, list_solid list)))
+      (each_append IsSolid (codes "vers:" ++ text_of name) (codes "/" ++ constraints_text normal list) (solid_test (codes "vers:" ++ text_of name) (head_solid name)) (refl, list_solid list)))
 
   written_texts : List (Constraint V) → List (List ℕ)
   written_texts [] = codes "*" ∷ []

@@ -5,6 +5,7 @@ use Rattle.std.specs.List.{AllByRecursion, join_with_byte}
 use Rattle.std.specs.declared.cmp.Ordering.{Ordering}
 use Rattle.vx_spec.specs.Each.{AreEach}
 use Rattle.vx_spec.specs.Marks.{Lacks}
+use Rattle.vx_text.specs.Pieces.{kept_parts}
 use Rattle.vx_scheme.specs.declared.name.SchemeName.{SchemeName}
 use Rattle.vx_text.specs.Escapes.{IsWhole, unescaped}
 use Rattle.vx_vers.specs.declared.constraints.Comparator.{Comparator}
@@ -13,12 +14,6 @@ use Rattle.vx_vers.specs.declared.constraints.Constraint.{Constraint}
 use Rattle.vx_vers.specs.Heads.{HasHead, solid}
 use Rattle.vx_vers.specs.Sorted.{IsSorted}
 use Rattle.vx_vers.specs.Texts.{sign}
-
--- the parts that are not empty
-abbrev pub kept_parts : List (List ℕ) → List (List ℕ)
-kept_parts [] = []
-kept_parts ([] ∷ parts) = kept_parts parts
-kept_parts ((b ∷ part) ∷ parts) = (b ∷ part) ∷ kept_parts parts
 
 -- The text is parts with '|' between each two, and the written constraints are those that are not empty; '|' is 124.
 pub record AreParts (text : List ℕ) (written : List (List ℕ)) : Type 0 where

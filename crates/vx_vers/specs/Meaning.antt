@@ -34,15 +34,11 @@ kind c = kind_of_comparator c.comparator
 
 abbrev pub is_point : Kind → Bool
 is_point point = true
-is_point hole = false
-is_point opening = false
-is_point closing = false
+is_point _ = false
 
 abbrev pub is_hole : Kind → Bool
-is_hole point = false
 is_hole hole = true
-is_hole opening = false
-is_hole closing = false
+is_hole _ = false
 
 -- whether the last cut so far opens, after one constraint more
 abbrev pub opens_next : Bool → Kind → Bool

@@ -1,27 +1,22 @@
 -- VERS, "Normalized, canonical representation and validation": when a list of constraints is valid, over any items that
 -- have a kind. First, with the `!=` left out, an `=` is followed only by `=`, `>`, `>=` or nothing. Second, with `=`
 -- and `!=` left out, the comparators alternate between greater (`>`, `>=`) and lesser (`<`, `<=`).
-use Rattle.std.specs.Prelude.{Bool, true, false, ◌&&◌, not, List, [], ◌∷◌, filter}
+use Rattle.std.specs.Prelude.{Bool, true, false, ◌&&◌, ◌||◌, not, List, [], ◌∷◌, filter}
 use Rattle.vx_vers.specs.Meaning.{Kind, point, hole, opening, closing, is_hole}
 
--- `<`, `<=`, `>` or `>=`
-abbrev pub is_range : Kind → Bool
-is_range point = false
-is_range hole = false
-is_range opening = true
-is_range closing = true
-
+-- `>` or `>=`
 abbrev pub is_opening : Kind → Bool
-is_opening point = false
-is_opening hole = false
 is_opening opening = true
-is_opening closing = false
+is_opening _ = false
 
+-- `<` or `<=`
 abbrev pub is_closing : Kind → Bool
-is_closing point = false
-is_closing hole = false
-is_closing opening = false
 is_closing closing = true
+is_closing _ = false
+
+-- any of the four
+abbrev pub is_range : Kind → Bool
+is_range k = is_opening k || is_closing k
 
 module _ {C : Type 0} (kind : C → Kind) where
   -- the list without `!=`

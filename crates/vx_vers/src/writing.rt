@@ -3,7 +3,8 @@ ghost use Rattle.std.specs.List.{join_with_byte};
 ghost use Rattle.vx_scheme.specs.Names.{text_of};
 ghost use Rattle.vx_text.specs.Escapes.{escaped};
 ghost use Rattle.vx_vers.specs.Again.{EachWritable, IsWritable, SpellsSame};
-ghost use Rattle.vx_vers.specs.Steps.Writing.{Extends, bar_before};
+ghost use Rattle.vx_text.specs.Steps.Between.{mark_before};
+ghost use Rattle.vx_vers.specs.Steps.Writing.{Extends};
 ghost use Rattle.vx_vers.specs.Texts.{sign, constraint_text, constraints_text, vers_text};
 
 use crate::constraints::{Comparator, Constraint, Constraints};
@@ -25,7 +26,7 @@ fn push_sign(out: &mut Text, comparator: Comparator) -> Result<(), NoMemory>
 }
 
 fn push_bar(out: &mut Text, i: usize) -> Result<(), NoMemory>
-    ensures ok { OnOk result (out.new ≡ out.old ++ bar_before i) }
+    ensures ok { OnOk result (out.new ≡ out.old ++ mark_before 124 i) }
     ensures err { OnErr result (out.new ≡ out.old) }
 {
     if i == 0 { Ok(()) } else { out.push_str("|") }

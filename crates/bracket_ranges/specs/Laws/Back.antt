@@ -1,7 +1,7 @@
 -- What a language of brackets promises of the way back: the text of spans holds what the spans hold.
 use Rattle.std.proofs.Common.{◌≡◌, ◌≢◌, ◌+◌, ◌++◌, ◌&&◌, ◌||◌, not, if◌then◌else◌, ℕ, Bool, true, false, List, [], ◌∷◌, length, refl, sym, ap, ◌∙◌, subst, inl, inr, Option, Some, None, Ok, append-nil, append_assoc, codes, arith}
 use Rattle.std.specs.Cmp.{IsTotalOrder, alike_right}
-use Rattle.std.specs.List.{list_all, list_any, flat_map, onto_first}
+use Rattle.std.specs.List.{list_all, list_any, onto_first}
 use Rattle.std.specs.Ordering.{is_eq, is_lt, is_le, is_gt, is_ge}
 use Rattle.std.specs.declared.cmp.Ordering.{Ordering}
 use Rattle.std.specs.declared.cmp.Ordering.TheVariants as ordering
@@ -33,7 +33,7 @@ use Rattle.bracket_ranges.specs.Cutting.{closed_parts, next_piece, next_pieces, 
 use Rattle.bracket_ranges.specs.Reading.{Parts, IsBracket, ReadsBound, ReadsBracket, ReadsAs, IsPast}
 use Rattle.bracket_ranges.specs.Holds.{is_over, is_under, holds}
 use Rattle.bracket_ranges.specs.Range.{Reads, IsRange, In}
-use Rattle.bracket_ranges.specs.Back.{lower_text, upper_text, bounds_text, point_text, sides_text, span_text, spans_text, back}
+use Rattle.bracket_ranges.specs.Back.{at_version, back, bounds_text, lower_text, others_text, point_text, sides_text, span_text, spans_text, text_behind, upper_text}
 use Rattle.bracket_ranges.specs.Laws.Words.{word_closes_none, word_lacks_comma, word_trimmed, behind_blanks, trimmed_tight}
 use Rattle.bracket_ranges.specs.Laws.Reading.{cut_laws, piece_laws}
 
@@ -286,21 +286,48 @@ module _ {V : Type 0} (alone : V → Bracket V) (Spells : List ℕ → V → Typ
     | inr other ↦ rw other (bounds_read (Some c) (Some d) p q)
   ]
 
+  -- a hole's cuts stand below the same versions on the same side
+  hole_says : (start lower : Cut V) (v : V) → is_point order start lower ≡ true → under_cut v (at_version start.version lower) ≡ under_cut v lower
+  hole_says start lower v hole =
+      let same = equal_of (order start.version lower.version) (and_parts (not start.after && lower.after) (is_eq (order start.version lower.version)) hole).1 in
+      ap (λ o. stands_below o lower.after) (laws.congr start.version lower.version v same)
+
+  hole_read : (start lower : Cut V) (upper : Option (Cut V)) → is_point order start lower ≡ true → IsVersion start.version → CutIs IsVersion upper
+      → SidesRead (bounds_text order normal (Some (at_version start.version lower)) upper) (Some lower) upper
+  hole_read start lower upper hole p q =
+      let s = bounds_read (Some (at_version start.version lower)) upper p q in record {
+        bracket = s.bracket;
+        reads = s.reads;
+        held = λ v. s.held v ∙ (λ i. hole_says start lower v hole i && cuts.is_under (under_cut v) upper);
+        closed = s.closed;
+      }
+
+  behind_read : (start lower upper : Option (Cut V)) → CutIs IsVersion start → CutIs IsVersion lower → CutIs IsVersion upper → SidesRead (text_behind order normal start lower upper) lower upper
+  behind_read None lower upper o p q = sides_read lower upper p q
+  behind_read (Some start) None upper o p q = sides_read None upper p q
+  behind_read (Some start) (Some lower) upper o p q = elim (cases_Bool (is_point order start lower)) [
+    | inl hole ↦ rw hole (hole_read start lower upper hole o q)
+    | inr other ↦ rw other (sides_read (Some lower) upper p q)
+  ]
+
   -- ---- all spans
 
   abbrev text_of : Span V → List ℕ
   text_of span = span_text order normal span
 
-  abbrev others_text : List (Span V) → List ℕ
-  others_text spans = flat_map (λ span. codes "," ++ text_of span) spans
+  abbrev others : Option (Cut V) → List (Span V) → List ℕ
+  others end spans = others_text order normal end spans
+
+  abbrev behind : Option (Cut V) → Span V → List ℕ
+  behind end span = text_behind order normal end span.lower span.upper
 
   abbrev is_held : List (Bracket V) → V → Bool
   is_held all v = list_any (λ bracket. holds order bracket v) all
 
-  -- the brackets behind the first
-  record OthersRead (spans : List (Span V)) : Type 0 where
+  -- the brackets behind a span that ends at this cut
+  record OthersRead (end : Option (Cut V)) (spans : List (Span V)) : Type 0 where
     all : List (Bracket V)
-    each : (at : ℕ) → AreEach (ReadsAs Spells alone) (next_pieces true at (closed_parts (others_text spans))) all
+    each : (at : ℕ) → AreEach (ReadsAs Spells alone) (next_pieces true at (closed_parts (others end spans))) all
     held : (v : V) → is_held all v ≡ in_spans order spans v
 
   next_read : (at : ℕ) (text : List ℕ) (bracket : Bracket V) → IsClosed text → ReadsBracket Spells text bracket → ReadsAs Spells alone (next_piece true at (44 ∷ text)) bracket
@@ -308,24 +335,26 @@ module _ {V : Type 0} (alone : V → Bracket V) (Spells : List ℕ → V → Typ
       let first : begins is_blank text ≡ false = ap (begins is_blank) is.joined ∙ (opening_unclosed is.opening is.opens).1 in
       subst (λ t. ReadsBracket Spells t bracket) (sym (behind_blanks text first)) reads
 
-  others_read : (spans : List (Span V)) → EachVersion IsVersion spans → OthersRead spans
-  others_read [] are = record { all = []; each = λ at. tt; held = λ v. refl }
-  others_read (span ∷ spans) are =
-      let s = sides_read span.lower span.upper are.0.0 are.0.1 in
-      let r = others_read spans are.1 in
-      let text = text_of span in
-      let parts = closed_next text (others_text spans) s.closed in record {
+  others_read : (end : Option (Cut V)) (spans : List (Span V)) → CutIs IsVersion end → EachVersion IsVersion spans → OthersRead end spans
+  others_read end [] is are = record { all = []; each = λ at. tt; held = λ v. refl }
+  others_read end (span ∷ spans) is are =
+      let s = behind_read end span.lower span.upper is are.0.0 are.0.1 in
+      let r = others_read span.upper spans are.0.1 are.1 in
+      let text = behind end span in
+      let parts = closed_next text (others span.upper spans) s.closed in record {
         all = s.bracket ∷ r.all;
         each = λ at. subst (λ (ps : List (List ℕ)). AreEach (ReadsAs Spells alone) (next_pieces true at ps) (s.bracket ∷ r.all)) (sym parts)
             (next_read at text s.bracket s.closed s.reads, r.each (at + length (44 ∷ text)));
         held = λ v i. s.held v i || r.held v i;
       }
 
-  all_ends : (text : List ℕ) (spans : List (Span V)) → Ends text → EachVersion IsVersion spans → Ends (text ++ others_text spans)
-  all_ends text [] ends are = subst Ends (sym (append-nil text)) ends
-  all_ends text (span ∷ spans) ends are =
-      let s = sides_read span.lower span.upper are.0.0 are.0.1 in
-      ends_behind text (44 ∷ (text_of span ++ others_text spans)) (ends_behind (44 ∷ []) (text_of span ++ others_text spans) (all_ends (text_of span) spans (closed_ends (text_of span) s.closed) are.1))
+  all_ends : (text : List ℕ) (end : Option (Cut V)) (spans : List (Span V)) → Ends text → CutIs IsVersion end → EachVersion IsVersion spans → Ends (text ++ others end spans)
+  all_ends text end [] ends is are = subst Ends (sym (append-nil text)) ends
+  all_ends text end (span ∷ spans) ends is are =
+      let s = behind_read end span.lower span.upper is are.0.0 are.0.1 in
+      let next = behind end span in
+      let rest = next ++ others span.upper spans in
+      ends_behind text (44 ∷ rest) (ends_behind (44 ∷ []) rest (all_ends next span.upper spans (closed_ends next s.closed) are.0.1 are.1))
 
   -- a text that begins with a bracket
   group_read : (lists : Bool) (first rest : List ℕ) (bracket : Bracket V) (all : List (Bracket V)) → IsClosed first → Ends (first ++ rest) → ReadsBracket Spells first bracket
@@ -352,11 +381,11 @@ module _ {V : Type 0} (alone : V → Bracket V) (Spells : List ℕ → V → Typ
   many_read [] some are = absurd (some refl)
   many_read (span ∷ spans) some are =
       let s = sides_read span.lower span.upper are.0.0 are.0.1 in
-      let r = others_read spans are.1 in
+      let r = others_read span.upper spans are.0.1 are.1 in
       let text = text_of span in
-      let ends = all_ends text spans (closed_ends text s.closed) are.1 in record {
+      let ends = all_ends text span.upper spans (closed_ends text s.closed) are.0.1 are.1 in record {
         all = s.bracket ∷ r.all;
-        reads = record { groups = pieces_of true (piece_of 0 (text ++ others_text spans)) ∷ []; cut = refl; each = (group_read true text (others_text spans) s.bracket r.all s.closed ends s.reads r.each, tt) };
+        reads = record { groups = pieces_of true (piece_of 0 (text ++ others span.upper spans)) ∷ []; cut = refl; each = (group_read true text (others span.upper spans) s.bracket r.all s.closed ends s.reads r.each, tt) };
         held = λ v i. s.held v i || r.held v i;
       }
 

@@ -6,7 +6,8 @@ use Rattle.std.proofs.lemmas.Bool.{and_parts}
 use Rattle.std.proofs.lemmas.Bool.Decides.{nat_tests}
 use Rattle.vx_spec.specs.Numerals.{is_numeral}
 use Rattle.vx_spec.proofs.TextLaws.{each_append, each_by_test, each_joined, each_part, test_by_each}
-use Rattle.vx_order.specs.Dotted.{dot, hyphen, plus, tail}
+use Rattle.vx_spec.specs.Signs.{dot, hyphen, plus}
+use Rattle.vx_order.specs.Dotted.{tail}
 use Rattle.vx_order.specs.Identifiers.{is_identifier, is_identifier_byte}
 use Rattle.nuget_scheme.specs.Version.{Fields}
 use Rattle.nuget_scheme.specs.Spelling.{Spells}

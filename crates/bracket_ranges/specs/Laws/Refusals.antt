@@ -1,18 +1,15 @@
 -- One reading and one refusal of a text, and marks that run on.
-use Rattle.std.proofs.Common.{◌≡◌, ◌≢◌, ◌+◌, ◌++◌, ℕ, Bool, List, [], ◌∷◌, refl, sym, ap, inl, inr, Option, Some, None}
+use Rattle.std.proofs.Common.{◌≡◌, ℕ, Bool, List, [], ◌∷◌, refl, sym, ap, inl, inr, Option, Some, None}
 use Rattle.std.specs.declared.cmp.Ordering.{Ordering}
 use Rattle.std.proofs.lemmas.Bool.{cases_Bool}
 use Rattle.vx_spec.specs.Runs.{trimmed}
 use Rattle.vx_scheme.specs.declared.domain.Domain.{Domain}
 use Rattle.vx_scheme.specs.declared.range_fault.RangeFault.{RangeFault}
 use Rattle.vx_scheme.specs.declared.range_fault.RangeFault.TheVariants as fault_of
-use Rattle.vx_scheme.specs.declared.span.Span.{Span}
 use Rattle.vx_scheme.specs.Cuts.{cuts_of}
-use Rattle.vx_range.specs.Pieces.{Written}
-use Rattle.vx_range.specs.Lists.{piece_of, piece_place, Plain}
+use Rattle.vx_range.specs.Lists.{piece_place}
 use Rattle.vx_range.specs.Running.{RunOn, EachRunsOn}
 use Rattle.vx_range.specs.Laws.OneRefusal as answers
-use Rattle.bracket_ranges.specs.declared.cutting.Kind.{Kind}
 use Rattle.bracket_ranges.specs.declared.cutting.Kind.TheVariants as kind_of
 use Rattle.bracket_ranges.specs.declared.bracket.Bound.{Bound}
 use Rattle.bracket_ranges.specs.declared.bracket.Bracket.{Bracket}

@@ -7,6 +7,7 @@ use Rattle.nuget_scheme.specs.contracts.scheme.NugetScheme.TheImpl as versions
 use Rattle.nuget_scheme.specs.contracts.version.NugetVersion as version
 use Rattle.bracket_ranges.specs.declared.range.BracketRange.{BracketRange}
 use Rattle.bracket_ranges.specs.contracts.nuget.NugetBrackets.TheImpl as table
+use Rattle.bracket_ranges.specs.contracts.nuget.NugetPlacedVersionsNugetRange.TheImpl as placed
 use Rattle.bracket_ranges.specs.contracts.range.BracketRangeScheme.TheImpl.{ghosts as scheme_of, no_dict}
 use Rattle.bracket_ranges.specs.contracts.range.BracketRangeNative.TheImpl.{ghosts as native_of}
 
@@ -16,8 +17,8 @@ NugetRange = BracketRange nuget.the_row.Denot
 
 -- its members as a scheme: those of NuGet's versions
 abbrev pub nuget_scheme : Scheme NugetRange Fields
-nuget_scheme = scheme_of nuget.the_row version.the_row table.ghosts no_dict versions.ghosts no_dict no_dict
+nuget_scheme = scheme_of nuget.the_row version.the_row table.ghosts no_dict placed.ghosts no_dict versions.ghosts no_dict no_dict
 
 -- and as a range language
 abbrev pub nuget_native : Native NugetRange Fields
-nuget_native = native_of nuget.the_row version.the_row table.ghosts no_dict versions.ghosts no_dict no_dict
+nuget_native = native_of nuget.the_row version.the_row table.ghosts no_dict placed.ghosts no_dict versions.ghosts no_dict no_dict

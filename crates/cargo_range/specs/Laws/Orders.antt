@@ -1,12 +1,13 @@
 -- A comparator's test of `semver` against the order: of three numbers it goes by precedence alone, and on a release each
 -- row of the table is its span.
-use Rattle.std.proofs.Common.{◌≡◌, ◌+◌, ◌==◌, ◌||◌, ◌&&◌, ℕ, zero, suc, List, [], ◌∷◌, map, Some, None, Bool, true, false, refl, ap, ◌∙◌, arith}
-use Rattle.std.specs.Prelude.{nat_eq, if◌then◌else◌}
+use Rattle.std.proofs.Common.{◌≡◌, ◌+◌, ◌||◌, ◌&&◌, ℕ, zero, suc, List, [], ◌∷◌, map, Some, None, Bool, true, false, refl, ap, ◌∙◌, arith}
+use Rattle.std.specs.Prelude.{nat_eq}
 use Rattle.std.specs.List.{list_all}
 use Rattle.std.specs.Cmp.Lexicographic.{pointwise}
 use Rattle.std.specs.Ordering.{is_eq, is_ge, is_gt, is_le, is_lt}
 use Rattle.std.specs.declared.cmp.Ordering.{Ordering}
 use Rattle.std.specs.declared.cmp.Ordering.TheVariants.{Less, Equal, Greater}
+use Rattle.std.proofs.lemmas.Bool.{ne_eqb}
 use Rattle.std.proofs.lemmas.Grind.{common_steps}
 use Rattle.semver.specs.EvalViews.{matches_views, view_op}
 use Rattle.semver.specs.Order.{pre_cmp}
@@ -14,10 +15,13 @@ use Rattle.semver.specs.OrderLaws.{order_ties, pre-anti, pre_total}
 use Rattle.semver.specs.Parse.{Held, Parts}
 use Rattle.semver.specs.declared.Op.{Op}
 use Rattle.semver.specs.declared.Op.TheVariants as op
+use Rattle.vx_range.specs.Extents.{in_extent}
 use Rattle.cargo_range.specs.declared.construct.Construct.{Construct}
+use Rattle.cargo_range.specs.declared.construct.Partial.TheVariants.{Major, Minor}
 use Rattle.cargo_range.specs.Version.{IsRelease, release_of}
 use Rattle.cargo_range.specs.Order.{precedence}
 use Rattle.cargo_range.specs.Holds.{held_of, holds}
+use Rattle.cargo_range.specs.Spans.{extent_by}
 
 pub and_true : (a : Bool) → (a && true) ≡ a
 and_true true = refl
@@ -107,22 +111,7 @@ caret_patch k (b ∷ rest) v release = rw release (grind (arith, common_steps))
 
 -- ---- two numbers and one, on a release
 
--- on and above a release, and below another
-abbrev pub between_test : Parts → Parts → Parts → Bool
-between_test low end v = is_ge (precedence v low) && is_lt (precedence v end)
-
-abbrev pub two_test : Op → ℕ → ℕ → Parts → Bool
-two_test op.Exact i j v = between_test (release_of i j 0) (release_of i (j + 1) 0) v
-two_test op.Wildcard i j v = between_test (release_of i j 0) (release_of i (j + 1) 0) v
-two_test op.Greater i j v = is_ge (precedence v (release_of i (j + 1) 0))
-two_test op.GreaterEq i j v = is_ge (precedence v (release_of i j 0))
-two_test op.Less i j v = is_lt (precedence v (release_of i j 0))
-two_test op.LessEq i j v = is_lt (precedence v (release_of i (j + 1) 0))
-two_test op.Tilde i j v = between_test (release_of i j 0) (release_of i (j + 1) 0) v
-two_test op.Caret i j v =
-    if i == 0 then between_test (release_of 0 j 0) (release_of 0 (j + 1) 0) v else between_test (release_of i j 0) (release_of (i + 1) 0 0) v
-
-pub two_says : (o : Op) (i j : ℕ) (v : Parts) → IsRelease v → view_op o (o, i, Some j, None, []) v ≡ two_test o i j v
+pub two_says : (o : Op) (i j : ℕ) (v : Parts) → IsRelease v → view_op o (o, i, Some j, None, []) v ≡ in_extent precedence (extent_by o (Minor i j)) v
 two_says op.Exact i j v release = rw release (grind (arith, common_steps))
 two_says op.Wildcard i j v release = rw release (grind (arith, common_steps))
 two_says op.Greater i j v release = rw release (grind (arith, common_steps))
@@ -131,19 +120,9 @@ two_says op.Less i j v release = rw release (grind (arith, common_steps))
 two_says op.LessEq i j v release = rw release (grind (arith, common_steps))
 two_says op.Tilde i j v release = rw release (grind (arith, common_steps))
 two_says op.Caret zero j v release = rw release (grind (arith, common_steps))
-two_says op.Caret (suc i) j v release = rw release (grind (arith, common_steps))
+two_says op.Caret (suc i) j v release = rw (release, ne_eqb (suc i) 0 (omega arith)) (grind (arith, common_steps))
 
-abbrev pub one_test : Op → ℕ → Parts → Bool
-one_test op.Exact i v = between_test (release_of i 0 0) (release_of (i + 1) 0 0) v
-one_test op.Wildcard i v = between_test (release_of i 0 0) (release_of (i + 1) 0 0) v
-one_test op.Greater i v = is_ge (precedence v (release_of (i + 1) 0 0))
-one_test op.GreaterEq i v = is_ge (precedence v (release_of i 0 0))
-one_test op.Less i v = is_lt (precedence v (release_of i 0 0))
-one_test op.LessEq i v = is_lt (precedence v (release_of (i + 1) 0 0))
-one_test op.Tilde i v = between_test (release_of i 0 0) (release_of (i + 1) 0 0) v
-one_test op.Caret i v = between_test (release_of i 0 0) (release_of (i + 1) 0 0) v
-
-pub one_says : (o : Op) (i : ℕ) (v : Parts) → IsRelease v → view_op o (o, i, None, None, []) v ≡ one_test o i v
+pub one_says : (o : Op) (i : ℕ) (v : Parts) → IsRelease v → view_op o (o, i, None, None, []) v ≡ in_extent precedence (extent_by o (Major i)) v
 one_says op.Exact i v release = rw release (grind (arith, common_steps))
 one_says op.Wildcard i v release = rw release (grind (arith, common_steps))
 one_says op.Greater i v release = rw release (grind (arith, common_steps))

@@ -3,7 +3,9 @@ use Rattle.std.specs.Prelude.{List, if◌then◌else◌, Option, Some, None, Res
 use Rattle.semver.specs.Parse.{Parts}
 use Rattle.vx_scheme.specs.declared.back_fault.BackFault.{BackFault}
 use Rattle.vx_scheme.specs.declared.span.Span.{Span}
-use Rattle.cargo_range.specs.Back.{is_proper, touch, gap_fault, join_spans, join_behind}
+use Rattle.vx_range.specs.Gaps.{gap_fault}
+use Rattle.cargo_range.specs.Order.{precedence}
+use Rattle.cargo_range.specs.Back.{is_proper, touch, join_spans, join_behind}
 
 -- the interval so far with the next span, which it has to touch
 abbrev pub join_next : Option (Span Parts) → Span Parts → Result (Span Parts) BackFault
@@ -11,7 +13,7 @@ join_next None span = Ok span
 join_next (Some before) span =
     if touch before.upper span.lower
     then Ok (record { lower = before.lower; upper = span.upper })
-    else Err (gap_fault before.upper span.lower)
+    else Err (gap_fault precedence before.upper span.lower)
 
 abbrev pub some_interval : Result (Span Parts) BackFault → Result (Option (Span Parts)) BackFault
 some_interval (Ok span) = Ok (Some span)

@@ -1,12 +1,13 @@
--- A text is made of parts that have their form in one way, so that no text spells two versions.
-use Rattle.std.proofs.Common.{◌≡◌, ◌≢◌, ℕ, nat_lt, length, Bool, List, [], ◌∷◌, true, refl, sym, ap, ◌∙◌}
+-- The bytes of parts hold no signs of others, so that no text spells two versions.
+use Rattle.std.proofs.Common.{◌≡◌, ◌≢◌, ℕ, nat_lt, length, Bool, List, [], ◌∷◌, true, refl}
 use Rattle.std.specs.List.{list_all}
 use Rattle.std.proofs.lemmas.Bool.{and_parts}
 use Rattle.vx_spec.specs.Marks.{Lacks}
+use Rattle.vx_spec.specs.Runs.{is_made_of}
 use Rattle.vx_spec.proofs.EndLaws.{lacks_by}
-use Rattle.vx_text.specs.EpochParts.{IsMadeOf, Parts, colon, hyphen}
-use Rattle.vx_text.proofs.EpochLaws.{one_made}
-use Rattle.deb_scheme.specs.Spelling.{Spells, is_revision_byte, is_upstream_byte, is_made_of, is_revision, is_upstream, version_of}
+use Rattle.vx_spec.specs.Signs.{colon, hyphen}
+use Rattle.vx_text.proofs.EpochVersionLaws as by_parts
+use Rattle.deb_scheme.specs.Spelling.{Spells, is_revision_byte, is_upstream_byte, is_revision, is_upstream, version_of}
 use Rattle.deb_scheme.specs.Version.{Fields}
 
 pub made_of : (test : ℕ → Bool) (text : List ℕ) → is_made_of test text ≡ true → list_all test text ≡ true
@@ -24,15 +25,6 @@ revision_lacks part is =
     let all = made_of is_revision_byte part is in
     (lacks_by is_revision_byte colon refl part all, lacks_by is_revision_byte hyphen refl part all)
 
--- a text that spells a version is made of its parts
-pub spelled_made : {text : List ℕ} {v : Fields} → (s : Spells text v) → IsMadeOf is_upstream is_revision text s.parts
-spelled_made s = record { joined = s.joined; forms = s.form }
-
--- and a text that is made of parts spells what they stand for
-pub made_spells : {text : List ℕ} {p : Parts} → IsMadeOf is_upstream is_revision text p → Spells text (version_of text p)
-made_spells {text} {p} made = record { parts = p; joined = made.joined; form = made.forms; values = refl }
-
 -- no text spells two versions
 pub one_reading : (text : List ℕ) (v w : Fields) → Spells text v → Spells text w → v ≡ w
-one_reading text v w s t =
-    s.values ∙ ap (version_of text) (one_made is_upstream is_revision upstream_lacks revision_lacks (spelled_made s) (spelled_made t)) ∙ sym t.values
+one_reading = by_parts.one_reading is_upstream is_revision version_of upstream_lacks revision_lacks

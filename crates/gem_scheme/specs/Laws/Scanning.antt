@@ -9,9 +9,10 @@ use Rattle.vx_spec.specs.Runs.{begins, run, past}
 use Rattle.vx_spec.proofs.RunLaws.{one_run, past_less, past_step, past_stays, run_step, run_stays}
 use Rattle.vx_scheme.specs.declared.ident.Ident.{Ident}
 use Rattle.vx_scheme.specs.declared.ident.Ident.TheVariants.{Number, Word}
+use Rattle.vx_spec.specs.Signs.{dot, hyphen}
 use Rattle.vx_order.specs.Laws.Scanning.{scanned_number, scanned_other, scanned_word}
 use Rattle.vx_order.specs.Scanning.{behind_token, scanned}
-use Rattle.gem_scheme.specs.Spelling.{dot, hyphen, written_out, first_segments, segments_of}
+use Rattle.gem_scheme.specs.Spelling.{written_out, first_segments, segments_of}
 use Rattle.gem_scheme.specs.Version.{SegmentIsWithin}
 use Rattle.gem_scheme.specs.Steps.Tokens.{front_segments, sign_segments}
 

@@ -12,10 +12,12 @@ use Rattle.vx_spec.proofs.RunLaws.{run_all, run_step}
 use Rattle.vx_scheme.specs.Scheme.{TextLaws}
 use Rattle.vx_scheme.specs.declared.ident.Ident.{Ident}
 use Rattle.vx_scheme.specs.declared.ident.Ident.TheVariants.{Number, Word}
+use Rattle.vx_spec.specs.Signs.{dot, hyphen}
+use Rattle.vx_order.specs.Dotted.{tail}
 use Rattle.vx_order.specs.Laws.Scanning.{token_number, token_other, token_word}
 use Rattle.vx_order.specs.Scanning.{behind_token, scanned_in}
 use Rattle.gem_scheme.specs.Version.{Fields, IsVersion, IsWithin, begins_with_number, is_segment}
-use Rattle.gem_scheme.specs.Spelling.{Parts, Spells, dot, hyphen, is_piece, tail, segments_of, first_segments, written_out}
+use Rattle.gem_scheme.specs.Spelling.{Parts, Spells, is_piece, segments_of, first_segments, written_out}
 use Rattle.gem_scheme.specs.Writing.{segment_text, normal}
 use Rattle.gem_scheme.specs.Order.{order_of, order_total}
 use Rattle.gem_scheme.specs.Laws.Scanning.{of_digits, digits_in_front, word_in_front, dot_in_front}

@@ -2,7 +2,7 @@
 use Rattle.std.specs.Prelude.{ℕ, List}
 use Rattle.std.specs.Option.{option_copied}
 use Rattle.vx_spec.specs.Marks.{IsCut}
-use Rattle.gem_scheme.specs.Spelling.{dot, hyphen}
+use Rattle.vx_spec.specs.Signs.{dot, hyphen}
 use Rattle.gem_scheme.specs.declared.spelling.Written.{Written}
 
 -- the text is cut into these parts

@@ -1,9 +1,9 @@
 -- The segments of a text as the program scans it, without writing '-' out.
 use Rattle.std.specs.Prelude.{◌==◌, ℕ, if◌then◌else◌, List, [], ◌∷◌, codes}
+use Rattle.vx_spec.specs.Signs.{hyphen}
 use Rattle.vx_order.specs.Scanning.{token_entries}
 use Rattle.vx_scheme.specs.declared.ident.Ident.{Ident}
 use Rattle.vx_scheme.specs.declared.ident.Ident.TheVariants.{Number, Word}
-use Rattle.gem_scheme.specs.Spelling.{hyphen}
 
 -- the segment that a byte stands for which is neither letter nor digit
 abbrev pub sign_segments : ℕ → List Ident

@@ -1,5 +1,5 @@
--- Below the ends of spans stand the versions that share the first numbers of the version where the span begins.
-use Rattle.std.proofs.Common.{◌≡◌, ◌==◌, ◌&&◌, ◌||◌, ◌+◌, nat_lt, ℕ, Bool, true, false, [], ◌∷◌, sym, ap, ◌∙◌, arith, inl, inr, eqb-true}
+-- From a version to the end of those that share its first numbers stand those of them that are at least the version.
+use Rattle.std.proofs.Common.{◌≡◌, ◌==◌, ◌&&◌, ◌||◌, ◌+◌, nat_lt, ℕ, Bool, true, false, [], ◌∷◌, refl, ap, ◌∙◌, arith, inl, inr}
 use Rattle.std.specs.Prelude.{⊤}
 use Rattle.std.specs.Ordering.{is_lt, is_ge}
 use Rattle.std.specs.declared.cmp.Ordering.{Ordering}
@@ -10,11 +10,12 @@ use Rattle.std.proofs.lemmas.Bool.Decides.{nat_tests}
 use Rattle.vx_scheme.specs.declared.domain.Domain.{Domain}
 use Rattle.vx_scheme.specs.declared.domain.Domain.TheVariants.{All, Releases}
 use Rattle.vx_scheme.specs.Native.{by_domain}
+use Rattle.vx_range.specs.Extents.{in_extent}
 use Rattle.npm_scheme.specs.Version.{Fields, IsRelease}
 use Rattle.npm_scheme.specs.Order.{order_of}
 use Rattle.npm_scheme.proofs.LowestLaws.{numbers_below, numbers_same, has_pre, is_lt-lowest_of, is_lt-release_of, numbers_below-patch_0, numbers_below-minor_0, numbers_below_is_below}
 use Rattle.npm_range.specs.Holds.{numbers_of, are_same, up_to_first_not_0, at_least}
-use Rattle.npm_range.specs.Spans.{end_of, caret_end_of_two, caret_end_of_three}
+use Rattle.npm_range.specs.Spans.{end_of, to_next_major, to_next_minor, to_next_patch, caret_of_two, caret_of_three}
 
 -- the version is of the domain
 abbrev pub IsOf : Domain → Fields → Type 0
@@ -52,48 +53,49 @@ same_three : (x a y b z c : ℕ) → (nat_lt x a || ((x == a) && (nat_lt y b || 
     → (nat_lt x a || ((x == a) && (nat_lt y b || ((y == b) && nat_lt z (c + 1))))) ≡ ((x == a) && ((y == b) && ((z == c) && true)))
 same_three x a y b z c none = grind (arith, nat_tests)
 
--- a version that is at least another is below the end of those that share its first number, its first two, all three
-module _ (domain : Domain) (low v : Fields) (is : IsOf domain v) (least : at_least low v ≡ true) where
-  pub to_one : is_lt (order_of v (end_of domain (low.major + 1) 0 0)) ≡ are_same (low.major ∷ []) (numbers_of v)
-  to_one = below_end domain (low.major + 1) 0 0 v is ∙ (numbers_below-minor_0 v (low.major + 1) ∙ same_one v.major low.major _ (not_below low v least))
+and_when : (a b c : Bool) → (a ≡ true → b ≡ c) → (a && b) ≡ (a && c)
+and_when true b c f = f refl
+and_when false b c f = refl
 
-  pub to_two : is_lt (order_of v (end_of domain low.major (low.minor + 1) 0)) ≡ are_same (low.major ∷ low.minor ∷ []) (numbers_of v)
-  to_two =
+module _ (domain : Domain) (low v : Fields) (is : IsOf domain v) where
+  -- from a version to the end of those that share its first number, its first two, all three
+  pub major_says : in_extent order_of (to_next_major domain low) v ≡ (at_least low v && are_same (low.major ∷ []) (numbers_of v))
+  major_says = and_when (at_least low v) _ _ (λ least.
+      below_end domain (low.major + 1) 0 0 v is ∙ (numbers_below-minor_0 v (low.major + 1) ∙ same_one v.major low.major _ (not_below low v least)))
+
+  pub minor_says : in_extent order_of (to_next_minor domain low) v ≡ (at_least low v && are_same (low.major ∷ low.minor ∷ []) (numbers_of v))
+  minor_says = and_when (at_least low v) _ _ (λ least.
       below_end domain low.major (low.minor + 1) 0 v is
-      ∙ (numbers_below-patch_0 v low.major (low.minor + 1) ∙ same_two v.major low.major v.minor low.minor _ (not_below low v least))
+      ∙ (numbers_below-patch_0 v low.major (low.minor + 1) ∙ same_two v.major low.major v.minor low.minor _ (not_below low v least)))
 
-  to_three : is_lt (order_of v (end_of domain low.major low.minor (low.patch + 1))) ≡ are_same (numbers_of low) (numbers_of v)
-  to_three = below_end domain low.major low.minor (low.patch + 1) v is ∙ same_three v.major low.major v.minor low.minor v.patch low.patch (not_below low v least)
+  patch_says : in_extent order_of (to_next_patch domain low) v ≡ (at_least low v && are_same (numbers_of low) (numbers_of v))
+  patch_says = and_when (at_least low v) _ _ (λ least.
+      below_end domain low.major low.minor (low.patch + 1) v is
+      ∙ same_three v.major low.major v.minor low.minor v.patch low.patch (not_below low v least))
 
-  pub caret_one : is_lt (order_of v (end_of domain (low.major + 1) 0 0)) ≡ are_same (up_to_first_not_0 (low.major ∷ [])) (numbers_of v)
+  pub caret_one : in_extent order_of (to_next_major domain low) v ≡ (at_least low v && are_same (up_to_first_not_0 (low.major ∷ [])) (numbers_of v))
   caret_one = elim (cases_Bool (low.major == 0)) [
-    | inl first ↦ rw first to_one
-    | inr first ↦ rw first to_one
+    | inl first ↦ rw first major_says
+    | inr first ↦ rw first major_says
   ]
 
-  at_zero : low.major ≡ 0 → is_lt (order_of v (end_of domain 0 (low.minor + 1) 0)) ≡ are_same (low.major ∷ low.minor ∷ []) (numbers_of v)
-  at_zero first = ap (λ n. is_lt (order_of v (end_of domain n (low.minor + 1) 0))) (sym first) ∙ to_two
-
-  pub caret_two : is_lt (order_of v (caret_end_of_two domain low.major low.minor)) ≡ are_same (up_to_first_not_0 (low.major ∷ low.minor ∷ [])) (numbers_of v)
+  pub caret_two : in_extent order_of (caret_of_two domain low) v ≡ (at_least low v && are_same (up_to_first_not_0 (low.major ∷ low.minor ∷ [])) (numbers_of v))
   caret_two = elim (cases_Bool (low.major == 0)) [
-    | inr first ↦ rw first to_one
+    | inr first ↦ rw first major_says
     | inl first ↦ elim (cases_Bool (low.minor == 0)) [
-      | inl second ↦ rw (first, second) (at_zero (eqb-true low.major 0 first))
-      | inr second ↦ rw (first, second) (at_zero (eqb-true low.major 0 first))
+      | inl second ↦ rw (first, second) minor_says
+      | inr second ↦ rw (first, second) minor_says
     ]
   ]
 
-  at_zeros : low.major ≡ 0 → low.minor ≡ 0 → is_lt (order_of v (end_of domain 0 0 (low.patch + 1))) ≡ are_same (numbers_of low) (numbers_of v)
-  at_zeros first second = (λ i. is_lt (order_of v (end_of domain (sym first i) (sym second i) (low.patch + 1)))) ∙ to_three
-
-  pub caret_three : is_lt (order_of v (caret_end_of_three domain low.major low.minor low.patch)) ≡ are_same (up_to_first_not_0 (numbers_of low)) (numbers_of v)
+  pub caret_three : in_extent order_of (caret_of_three domain low) v ≡ (at_least low v && are_same (up_to_first_not_0 (numbers_of low)) (numbers_of v))
   caret_three = elim (cases_Bool (low.major == 0)) [
-    | inr first ↦ rw first to_one
+    | inr first ↦ rw first major_says
     | inl first ↦ elim (cases_Bool (low.minor == 0)) [
-      | inr second ↦ rw (first, second) (at_zero (eqb-true low.major 0 first))
+      | inr second ↦ rw (first, second) minor_says
       | inl second ↦ elim (cases_Bool (low.patch == 0)) [
-        | inl third ↦ rw (first, second, third) (at_zeros (eqb-true low.major 0 first) (eqb-true low.minor 0 second))
-        | inr third ↦ rw (first, second, third) (at_zeros (eqb-true low.major 0 first) (eqb-true low.minor 0 second))
+        | inl third ↦ rw (first, second, third) patch_says
+        | inr third ↦ rw (first, second, third) patch_says
       ]
     ]
   ]

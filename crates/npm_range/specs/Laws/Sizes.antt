@@ -10,6 +10,8 @@ use Rattle.vx_scheme.specs.Cuts.{cuts_of}
 use Rattle.vx_range.specs.Pieces.{Written}
 use Rattle.vx_range.specs.Reading.{ReadsGroups}
 use Rattle.vx_range.specs.Sizes.{cut_count}
+use Rattle.vx_range.specs.Extents.{extent_spans}
+use Rattle.vx_range.specs.Laws.Extents.{extent_two}
 use Rattle.vx_range.specs.Laws.Sizes.{alternatives_of_most}
 use Rattle.npm_scheme.specs.Version.{Fields}
 use Rattle.npm_range.specs.declared.cutting.Kind.{Kind}
@@ -20,19 +22,19 @@ use Rattle.npm_range.specs.declared.construct.Partial.{Partial}
 use Rattle.npm_range.specs.declared.construct.Partial.TheVariants.{Any, Major, Minor, Full}
 use Rattle.npm_range.specs.Cutting.{place, behind_piece, ArePieces, sides, IsMadeOf, AreAlternatives}
 use Rattle.npm_range.specs.Reading.{ReadsAs}
-use Rattle.npm_range.specs.Spans.{equal_spans, greater_spans, greater_equal_spans, less_spans, less_equal_spans, tilde_spans, caret_spans, spans_by, made_spans}
+use Rattle.npm_range.specs.Spans.{equal_extent, greater_extent, greater_equal_extent, less_extent, less_equal_extent, tilde_extent, caret_extent, extent_by, made_spans}
 use Rattle.npm_range.specs.Range.{Makes}
 use Rattle.npm_range.specs.Sizes.{counted, construct_count, HasConstructs}
 use Rattle.npm_range.specs.Laws.Cuts.{npm_cuts}
 
 -- ---- the cuts of a construct
 
--- the most that an operator makes
+-- the most that an operator makes; those of the sides of a hyphen range make one
 abbrev most_of : Operator → ℕ
 most_of Equal = 2
-most_of Less = 1
+most_of Less = 2
 most_of LessEqual = 1
-most_of Greater = 1
+most_of Greater = 2
 most_of GreaterEqual = 1
 most_of Tilde = 2
 most_of Caret = 2
@@ -49,56 +51,27 @@ two_at_most GreaterEqual = omega arith
 two_at_most Tilde = omega arith
 two_at_most Caret = omega arith
 
-equal_two : (domain : Domain) (mark : ℕ) (p : Partial) → length (cuts_of (equal_spans domain mark p)) ≤ 2
-equal_two domain mark (Full version) = omega arith
-equal_two domain mark (Minor major minor) = omega arith
-equal_two domain mark (Major major) = omega arith
-equal_two domain mark Any = omega arith
-
-greater_one : (mark : ℕ) (p : Partial) → length (cuts_of (greater_spans mark p)) ≤ 1
-greater_one mark (Full version) = omega arith
-greater_one mark (Minor major minor) = omega arith
-greater_one mark (Major major) = omega arith
-greater_one mark Any = omega arith
-
-greater_equal_one : (mark : ℕ) (p : Partial) → length (cuts_of (greater_equal_spans mark p)) ≤ 1
+greater_equal_one : (mark : ℕ) (p : Partial) → length (cuts_of (extent_spans mark (greater_equal_extent p))) ≤ 1
 greater_equal_one mark (Full version) = omega arith
 greater_equal_one mark (Minor major minor) = omega arith
 greater_equal_one mark (Major major) = omega arith
 greater_equal_one mark Any = omega arith
 
-less_one : (domain : Domain) (mark : ℕ) (p : Partial) → length (cuts_of (less_spans domain mark p)) ≤ 1
-less_one domain mark (Full version) = omega arith
-less_one domain mark (Minor major minor) = omega arith
-less_one domain mark (Major major) = omega arith
-less_one domain mark Any = omega arith
-
-less_equal_one : (domain : Domain) (mark : ℕ) (p : Partial) → length (cuts_of (less_equal_spans domain mark p)) ≤ 1
+less_equal_one : (domain : Domain) (mark : ℕ) (p : Partial) → length (cuts_of (extent_spans mark (less_equal_extent domain p))) ≤ 1
 less_equal_one domain mark (Full version) = omega arith
 less_equal_one domain mark (Minor major minor) = omega arith
 less_equal_one domain mark (Major major) = omega arith
 less_equal_one domain mark Any = omega arith
 
-tilde_two : (domain : Domain) (mark : ℕ) (p : Partial) → length (cuts_of (tilde_spans domain mark p)) ≤ 2
-tilde_two domain mark (Full version) = omega arith
-tilde_two domain mark (Minor major minor) = omega arith
-tilde_two domain mark (Major major) = omega arith
-tilde_two domain mark Any = omega arith
-
-caret_two : (domain : Domain) (mark : ℕ) (p : Partial) → length (cuts_of (caret_spans domain mark p)) ≤ 2
-caret_two domain mark (Full version) = omega arith
-caret_two domain mark (Minor major minor) = omega arith
-caret_two domain mark (Major major) = omega arith
-caret_two domain mark Any = omega arith
-
-by_operator : (operator : Operator) (domain : Domain) (mark : ℕ) (p : Partial) → length (cuts_of (spans_by operator domain mark p)) ≤ most_of operator
-by_operator Equal domain mark p = equal_two domain mark p
-by_operator Less domain mark p = less_one domain mark p
+by_operator : (operator : Operator) (domain : Domain) (mark : ℕ) (p : Partial)
+    → length (cuts_of (extent_spans mark (extent_by operator domain p))) ≤ most_of operator
+by_operator Equal domain mark p = extent_two mark (equal_extent domain p)
+by_operator Less domain mark p = extent_two mark (less_extent domain p)
 by_operator LessEqual domain mark p = less_equal_one domain mark p
-by_operator Greater domain mark p = greater_one mark p
+by_operator Greater domain mark p = extent_two mark (greater_extent p)
 by_operator GreaterEqual domain mark p = greater_equal_one mark p
-by_operator Tilde domain mark p = tilde_two domain mark p
-by_operator Caret domain mark p = caret_two domain mark p
+by_operator Tilde domain mark p = extent_two mark (tilde_extent domain p)
+by_operator Caret domain mark p = extent_two mark (caret_extent domain p)
 
 construct_most : (domain : Domain) (mark : ℕ) (c : Construct) → length (cuts_of (made_spans domain mark c)) ≤ most c
 construct_most domain mark c = by_operator c.operator domain mark c.partial

@@ -10,7 +10,8 @@ use Rattle.vx_text.proofs.Joins.{split_join}
 use Rattle.vx_scheme.specs.declared.ident.Ident.{Ident}
 use Rattle.vx_scheme.specs.declared.ident.Ident.TheVariants.{Number, Word}
 use Rattle.vx_scheme.specs.Scheme.{IsSpelled, NormalSpells, TextLaws}
-use Rattle.vx_order.specs.Dotted.{dot, hyphen, tail}
+use Rattle.vx_spec.specs.Signs.{dot, hyphen}
+use Rattle.vx_order.specs.Dotted.{tail}
 use Rattle.vx_order.specs.Identifiers.{identifier_text, is_ident, is_identifier}
 use Rattle.vx_order.specs.Laws.Dotted.{identifiers_lack}
 use Rattle.vx_order.specs.Laws.Identifiers.{again, all_again, formed_idents}

@@ -6,15 +6,15 @@ use Rattle.std.proofs.lemmas.Bool.{and_from, and_parts}
 use Rattle.vx_spec.specs.Marks.{Lacks}
 use Rattle.vx_spec.specs.Numerals.{is_numeral}
 use Rattle.vx_spec.proofs.MarkLaws.{one_cut}
-use Rattle.vx_spec.proofs.EndLaws.{lacks_by, lacks_append}
-use Rattle.vx_order.specs.Dotted.{dot, hyphen, plus}
+use Rattle.vx_spec.proofs.EndLaws.{lacks_append}
+use Rattle.vx_spec.specs.Signs.{dot, hyphen, plus}
 use Rattle.vx_order.specs.Identifiers.{is_identifier}
-use Rattle.vx_order.specs.Laws.Dotted.{dot_not_hyphen, dot_not_plus, one_apart}
+use Rattle.vx_order.specs.Laws.Dotted.{dot_not_hyphen, dot_not_plus, made_lacks, one_apart}
 use Rattle.npm_scheme.specs.Version.{Fields}
 use Rattle.npm_scheme.specs.Spelling.{Parts, AreVersionParts, Spells, version_of, core, whole, has_leading_zero, is_plain_numeral, is_pre_identifier}
 
 pub numeral_lacks : (c : ℕ) (text : List ℕ) → is_ascii_digit c ≡ false → is_plain_numeral text ≡ true → Lacks c text
-numeral_lacks c text fails is = lacks_by is_ascii_digit c fails text (and_parts _ _ (and_parts _ _ is).0).1
+numeral_lacks c text fails is = made_lacks is_ascii_digit c fails text (and_parts _ _ is).0
 
 -- pre-release identifiers are identifiers
 pub pre_identifiers : (xs : List (List ℕ)) → list_all is_pre_identifier xs ≡ true → list_all is_identifier xs ≡ true

@@ -1,7 +1,7 @@
 -- A text cut at its first two dots.
 use Rattle.std.specs.Prelude.{◌≡◌, List, ℕ}
 use Rattle.vx_spec.specs.Marks.{Lacks}
-use Rattle.vx_order.specs.Dotted.{dot}
+use Rattle.vx_spec.specs.Signs.{dot}
 use Rattle.npm_scheme.specs.Spelling.{core}
 
 -- the text has two dots, and these are its parts up to the first two

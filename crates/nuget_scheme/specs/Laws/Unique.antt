@@ -2,22 +2,18 @@
 use Rattle.std.proofs.Common.{◌≡◌, ◌≢◌, ℕ, List, [], ◌∷◌, true, false, nat_lt, length, refl, sym, ap, ◌∙◌}
 use Rattle.std.specs.List.{AllByRecursion, join_with_byte, list_all}
 use Rattle.std.specs.Char.{is_ascii_digit}
-use Rattle.std.proofs.lemmas.Bool.{and_parts}
 use Rattle.vx_spec.specs.Marks.{Lacks}
 use Rattle.vx_spec.specs.Numerals.{is_numeral}
-use Rattle.vx_spec.proofs.EndLaws.{lacks_by}
 use Rattle.vx_text.proofs.Joins.{join_lacks, split_join}
-use Rattle.vx_order.specs.Dotted.{dot, dotted, hyphen, plus}
-use Rattle.vx_order.specs.Laws.Dotted.{dot_not_hyphen, dot_not_plus, one_apart}
+use Rattle.vx_spec.specs.Signs.{dot, hyphen, plus}
+use Rattle.vx_order.specs.Dotted.{dotted}
+use Rattle.vx_order.specs.Laws.Dotted.{all_made_lack, dot_not_hyphen, dot_not_plus, one_apart}
 use Rattle.nuget_scheme.specs.Version.{Fields}
 use Rattle.nuget_scheme.specs.Spelling.{Parts, AreVersionParts, Spells, version_of, whole}
 
 -- numerals lack what is no digit
 pub numerals_lack : (c : ℕ) → is_ascii_digit c ≡ false → (xs : List (List ℕ)) → list_all is_numeral xs ≡ true → AllByRecursion (Lacks c) xs
-numerals_lack c fails [] all = tt
-numerals_lack c fails (x ∷ xs) all =
-    let a = and_parts (is_numeral x) (list_all is_numeral xs) all in
-    (lacks_by is_ascii_digit c fails x (and_parts (nat_lt 0 (length x)) (list_all is_ascii_digit x) a.0).1, numerals_lack c fails xs a.1)
+numerals_lack = all_made_lack is_ascii_digit
 
 -- cutting the numbers undoes joining them
 pub dotted_joined : (xs : List (List ℕ)) → nat_lt 0 (length xs) ≡ true → AllByRecursion (Lacks dot) xs → dotted (join_with_byte dot xs) ≡ xs

@@ -29,7 +29,7 @@ use Rattle.pep440_scheme.specs.Version.{Fields, IsRelease, IsVersion, public_of}
 use Rattle.pep440_scheme.specs.Order.{end_rank, local_letter, number_letter, order_of, post_letter, pre_letter, dev_letter}
 use Rattle.pep440_scheme.specs.Next.{last_number, pre_number, raised_of}
 use Rattle.pep440_scheme.specs.Writing.{epoch_text, normal, release_text, suffixes_text}
-use Rattle.pep440_scheme.specs.Spelling.{dot}
+use Rattle.vx_spec.specs.Signs.{dot}
 use Rattle.pep440_scheme.specs.Laws.Texts.{spelled_version}
 use Rattle.pep440_scheme.proofs.OrderLaws.{release_rows}
 use Rattle.vx_order.specs.Letters.{letters_cmp}

@@ -22,7 +22,7 @@ use Rattle.pep440_scheme.specs.declared.version.PreKind.{PreKind}
 use Rattle.pep440_scheme.specs.declared.version.PreKind.TheVariants.{A, B, Rc}
 use Rattle.pep440_scheme.specs.declared.version.PrePart.{PrePart}
 use Rattle.pep440_scheme.specs.Version.{Fields, IsPublic, IsRelease, IsVersion, is_local, is_word_byte}
-use Rattle.pep440_scheme.specs.Spelling.{bang, dot}
+use Rattle.vx_spec.specs.Signs.{bang, dot}
 use Rattle.pep440_scheme.specs.Writing.{ends_text, epoch_text, ident_text, kind_text, locals_text, normal, pre_text, release_text, suffixes_text, word_text}
 use Rattle.pep440_scheme.specs.Laws.Behind.{numeral_begins}
 use Rattle.pep440_scheme.specs.Laws.Ends.{without_end_append}

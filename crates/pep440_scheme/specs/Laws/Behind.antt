@@ -13,7 +13,8 @@ use Rattle.vx_text.specs.Folding.{lowered}
 use Rattle.pep440_scheme.specs.declared.version.PreKind.{PreKind}
 use Rattle.pep440_scheme.specs.declared.words.Mark.{Mark}
 use Rattle.pep440_scheme.specs.declared.words.Mark.TheVariants.{Pre, Post, Dev}
-use Rattle.pep440_scheme.specs.Spelling.{LocalPart, Suffix, are_locals, hyphen, is_closed, is_dev, is_dev_mark, is_gap, is_implicit, is_local_text, is_later_local, is_post, is_post_mark, is_pre, is_pre_mark, is_suffix, local_text, may_follow, option_text, plus, pre_value, suffix_text}
+use Rattle.vx_spec.specs.Signs.{hyphen, plus}
+use Rattle.pep440_scheme.specs.Spelling.{LocalPart, Suffix, are_locals, is_closed, is_dev, is_dev_mark, is_gap, is_implicit, is_local_text, is_later_local, is_post, is_post_mark, is_pre, is_pre_mark, is_suffix, local_text, may_follow, option_text, pre_value, suffix_text}
 use Rattle.pep440_scheme.specs.Words.{MarkWord, mark_of, mark_words}
 use Rattle.pep440_scheme.specs.Steps.Apart.{PreStep, Step, after_gap, after_word, dev_step, first_word, is_dashed, post_step, post_taken, pre_part_of, pre_step, pre_taken, suffix_at}
 use Rattle.pep440_scheme.specs.Laws.FirstWords.{goes_on}

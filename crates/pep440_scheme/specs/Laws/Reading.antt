@@ -7,14 +7,16 @@ use Rattle.std.proofs.lemmas.Bool.{and_from, and_parts, cases_Bool}
 use Rattle.std.proofs.lemmas.Bool.Decides.{nat_tests}
 use Rattle.std.proofs.lemmas.List.Elements.{All-from_recursion}
 use Rattle.std.proofs.lemmas.List.Splits.{slice_split_at, slice_split_none}
-use Rattle.vx_spec.specs.Marks.{Lacks, in_front}
+use Rattle.vx_spec.specs.Marks.{in_front}
 use Rattle.vx_spec.specs.Numerals.{is_numeral, value}
 use Rattle.vx_spec.specs.Runs.{begins, trimmed}
-use Rattle.vx_spec.proofs.EndLaws.{lacks_by}
 use Rattle.vx_spec.proofs.TextLaws.{each_append, each_by_test}
 use Rattle.vx_text.proofs.Joins.{split_join}
+use Rattle.vx_order.specs.Laws.Dotted.{all_made_lack}
 use Rattle.pep440_scheme.specs.Version.{Fields}
-use Rattle.pep440_scheme.specs.Spelling.{AreVersionParts, LocalPart, Parts, Spells, Suffix, are_locals, bang, core, dot, is_epoch, is_later_local, is_local_text, is_implicit, is_post, is_pre, is_separator, local_of, local_text, option_text, plus, suffix_value, suffixes, version_of, whole}
+use Rattle.vx_spec.specs.Signs.{bang, dot, plus}
+use Rattle.vx_text.specs.EpochParts.{is_epoch}
+use Rattle.pep440_scheme.specs.Spelling.{AreVersionParts, LocalPart, Parts, Spells, Suffix, are_locals, core, is_later_local, is_local_text, is_implicit, is_post, is_pre, is_separator, local_of, local_text, option_text, suffix_value, suffixes, version_of, whole}
 use Rattle.pep440_scheme.specs.Steps.Apart.{after_release, after_v, apart, epoch_step, fields_of, from_epoch, is_label, label_parts, pre_step, release_parts, with_pre}
 use Rattle.pep440_scheme.specs.Laws.Ends.{trimmed_append}
 use Rattle.pep440_scheme.specs.Laws.Suffixes.{suffix_apart}
@@ -125,13 +127,7 @@ pub record ReadsAs (text : List ℕ) (v : Fields) : Type 0 where
 
 split_release : (parts : List (List ℕ)) → nat_lt 0 (length parts) ≡ true → list_all is_numeral parts ≡ true → release_parts (join_with_byte dot parts) ≡ parts
 split_release [] some all = cc some
-split_release (x ∷ parts) some all = split_join dot x parts (lacking (x ∷ parts) all)
-  where
-    lacking : (xs : List (List ℕ)) → list_all is_numeral xs ≡ true → AllByRecursion (Lacks dot) xs
-    lacking [] each = tt
-    lacking (y ∷ ys) each =
-        let a = and_parts (is_numeral y) (list_all is_numeral ys) each in
-        (lacks_by is_ascii_digit dot refl y (and_parts (nat_lt 0 (length y)) (list_all is_ascii_digit y) a.0).1, lacking ys a.1)
+split_release (x ∷ parts) some all = split_join dot x parts (all_made_lack is_ascii_digit dot refl (x ∷ parts) all)
 
 taken_value : (s : Option Suffix) → option_map value (suffix_digits s) ≡ suffix_value s
 taken_value None = refl

@@ -14,7 +14,9 @@ use Rattle.vx_spec.specs.Runs.{begins, past, run, without_end}
 use Rattle.vx_spec.proofs.RunLaws.{one_run, past_stays, past_step}
 use Rattle.vx_spec.proofs.TextLaws.{each_by_test, each_joined, each_part, test_by_each}
 use Rattle.vx_text.specs.Folding.{lowered}
-use Rattle.pep440_scheme.specs.Spelling.{bang, dot, has_byte, hyphen, is_epoch, is_separator, is_v}
+use Rattle.vx_spec.specs.Signs.{bang, dot, hyphen}
+use Rattle.vx_text.specs.EpochParts.{is_epoch}
+use Rattle.pep440_scheme.specs.Spelling.{has_byte, is_separator, is_v}
 use Rattle.pep440_scheme.specs.Steps.Apart.{after_release, after_v, epoch_by, epoch_step, is_dot, is_release_byte, release_at, small_v}
 use Rattle.pep440_scheme.specs.Laws.Ends.{ends, without_end_append}
 use Rattle.pep440_scheme.specs.Laws.Suffixes.{StandsApart}

@@ -12,7 +12,9 @@ use Rattle.vx_spec.specs.Runs.{begins, is_blank}
 use Rattle.vx_spec.proofs.TextLaws.{each_append, each_by_test, each_joined, each_part}
 use Rattle.vx_text.specs.Folding.{lowered}
 use Rattle.pep440_scheme.specs.declared.words.Mark.{Mark}
-use Rattle.pep440_scheme.specs.Spelling.{AreVersionParts, LocalPart, Parts, Suffix, are_locals, bang, core, dot, is_dev, is_epoch, is_gap, is_implicit, is_later_local, is_local_text, is_post, is_pre, is_separator, is_v, local_text, option_text, plus, suffix_text}
+use Rattle.vx_spec.specs.Signs.{bang, dot, plus}
+use Rattle.vx_text.specs.EpochParts.{is_epoch}
+use Rattle.pep440_scheme.specs.Spelling.{AreVersionParts, LocalPart, Parts, Suffix, are_locals, core, is_dev, is_gap, is_implicit, is_later_local, is_local_text, is_post, is_pre, is_separator, is_v, local_text, option_text, suffix_text}
 use Rattle.pep440_scheme.specs.Words.{MarkWord, mark_words}
 use Rattle.pep440_scheme.specs.Laws.Ends.{ends}
 use Rattle.pep440_scheme.specs.Laws.FirstWords.{mark_in_has}

@@ -8,7 +8,8 @@ use Rattle.vx_spec.specs.Runs.{begins, past, run}
 use Rattle.vx_spec.proofs.RunLaws.{one_run}
 use Rattle.vx_text.specs.Folding.{lowered}
 use Rattle.pep440_scheme.specs.declared.words.Mark.{Mark}
-use Rattle.pep440_scheme.specs.Spelling.{Suffix, bang, has_byte, is_closed, is_gap, is_pre_mark, is_separator, suffix_text}
+use Rattle.vx_spec.specs.Signs.{bang}
+use Rattle.pep440_scheme.specs.Spelling.{Suffix, has_byte, is_closed, is_gap, is_pre_mark, is_separator, suffix_text}
 use Rattle.pep440_scheme.specs.Words.{mark_of}
 use Rattle.pep440_scheme.specs.Steps.Apart.{after_gap, is_dashed, suffix_at}
 use Rattle.pep440_scheme.specs.Laws.FirstWords.{goes_on, word_begins, word_first, word_not_later}

@@ -19,7 +19,9 @@ use Rattle.pep440_scheme.specs.declared.version.PreKind.TheVariants.{A, B, Rc}
 use Rattle.pep440_scheme.specs.declared.version.PrePart.{PrePart}
 use Rattle.pep440_scheme.specs.Version.{Fields, IsVersion, IsWithin, is_local, is_word, is_word_byte}
 use Rattle.pep440_scheme.specs.Order.{order_of, order_total}
-use Rattle.pep440_scheme.specs.Spelling.{AreVersionParts, LocalPart, Parts, Spells, Suffix, are_locals, bang, core, dot, epoch_value, is_dev, is_epoch, is_later_local, is_local_text, is_post, is_pre, local_of, local_text, may_follow, option_text, plus, pre_value, suffix_value, suffixes, version_of, whole}
+use Rattle.vx_spec.specs.Signs.{bang, dot, plus}
+use Rattle.vx_text.specs.EpochParts.{epoch_value, is_epoch}
+use Rattle.pep440_scheme.specs.Spelling.{AreVersionParts, LocalPart, Parts, Spells, Suffix, are_locals, core, is_dev, is_later_local, is_local_text, is_post, is_pre, local_of, local_text, may_follow, option_text, pre_value, suffix_value, suffixes, version_of, whole}
 use Rattle.pep440_scheme.specs.Writing.{epoch_text, ident_text, kind_text, locals_text, normal, pre_text, release_text, word_text}
 use Rattle.pep440_scheme.specs.Laws.Reading.{core_digit, one_reading}
 

@@ -11,7 +11,9 @@ use Rattle.pep440_scheme.specs.declared.words.Mark.{Mark}
 use Rattle.pep440_scheme.specs.declared.words.Mark.TheVariants.{Pre, Post, Dev}
 use Rattle.pep440_scheme.specs.Version.{Fields}
 use Rattle.pep440_scheme.specs.Words.{MarkWord, mark_words}
-use Rattle.pep440_scheme.specs.Spelling.{bang, dot, has_byte, hyphen, plus, is_separator, is_local_text, local_of, epoch_value}
+use Rattle.vx_spec.specs.Signs.{bang, dot, hyphen, plus}
+use Rattle.vx_text.specs.EpochParts.{epoch_value}
+use Rattle.pep440_scheme.specs.Spelling.{has_byte, is_separator, is_local_text, local_of}
 
 -- the byte 'v'
 abbrev pub small_v : ℕ

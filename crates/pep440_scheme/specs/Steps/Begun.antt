@@ -1,11 +1,6 @@
--- Texts that others begin, and what stands in front of a number of a release and of a part of a label.
-use Rattle.std.specs.Prelude.{◌≡◌, ◌==◌, if◌then◌else◌, ℕ, List, [], ◌∷◌, ◌++◌}
-use Rattle.pep440_scheme.specs.Spelling.{dot, plus}
-
--- the text begins with the other one
-pub record IsBegunBy (begin text : List ℕ) : Type 0 where
-  pub rest : List ℕ
-  pub joined : text ≡ begin ++ rest
+-- What stands in front of a number of a release and of a part of a label.
+use Rattle.std.specs.Prelude.{◌==◌, if◌then◌else◌, ℕ, List, [], ◌∷◌}
+use Rattle.vx_spec.specs.Signs.{dot, plus}
 
 -- nothing stands before the first number of a release, and '.' before each other
 abbrev pub dot_before : ℕ → List ℕ

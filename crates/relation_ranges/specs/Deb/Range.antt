@@ -8,9 +8,8 @@ use Rattle.vx_text.specs.Past.{first_past}
 use Rattle.deb_scheme.specs.Version.{Fields}
 use Rattle.deb_scheme.specs.Spelling.{Spells}
 use Rattle.relation_ranges.specs.Range as relations
-use Rattle.relation_ranges.specs.Deb.Operators.{bar}
+use Rattle.relation_ranges.specs.Deb.Operators.{HasSigns, bar}
 use Rattle.relation_ranges.specs.Comparison.{is_sign}
-use Rattle.relation_ranges.specs.Deb.Reading.{HasSigns}
 use Rattle.relation_ranges.specs.Deb.Holds.{holds}
 use Rattle.relation_ranges.specs.Deb.Spans.{spans_of}
 use Rattle.relation_ranges.specs.Deb.Refusals.{outcome}

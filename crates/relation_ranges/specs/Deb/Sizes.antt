@@ -3,8 +3,7 @@ use Rattle.std.specs.Prelude.{ℕ, List, Some}
 use Rattle.deb_scheme.specs.Spelling.{Spells}
 use Rattle.relation_ranges.specs.Sizes as relations
 use Rattle.relation_ranges.specs.Comparison.{is_sign}
-use Rattle.relation_ranges.specs.Deb.Operators.{bar}
-use Rattle.relation_ranges.specs.Deb.Reading.{HasSigns}
+use Rattle.relation_ranges.specs.Deb.Operators.{HasSigns, bar}
 
 -- the text has n relations
 abbrev pub HasConstructs : List ℕ → ℕ → Type 0

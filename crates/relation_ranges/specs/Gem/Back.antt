@@ -12,7 +12,7 @@ use Rattle.gem_scheme.specs.Writing.{normal}
 use Rattle.relation_ranges.specs.declared.gem.operators.Operator.TheVariants.{Compares, NotEqual}
 use Rattle.relation_ranges.specs.Written as written
 use Rattle.relation_ranges.specs.Bounds as bounds
-use Rattle.relation_ranges.specs.Bounds.{is_hole, mark_of}
+use Rattle.vx_range.specs.Gaps.{is_hole, mark_of}
 use Rattle.relation_ranges.specs.Gem.Operators.{signs_of}
 use Rattle.relation_ranges.specs.Gem.Reading.{GemRelation}
 

@@ -2,12 +2,13 @@
 use Rattle.std.specs.Prelude.{◌≡◌, ◌⊎◌, ◌==◌, ◌||◌, ℕ, Bool, List, [], codes}
 use Rattle.relation_ranges.specs.Comparison as comparison
 use Rattle.relation_ranges.specs.declared.comparison.Comparison.TheVariants.{Equal}
+use Rattle.relation_ranges.specs.declared.comparison.Strict.TheVariants.{Single}
 use Rattle.relation_ranges.specs.declared.gem.operators.Operator.{Operator}
 use Rattle.relation_ranges.specs.declared.gem.operators.Operator.TheVariants.{Compares, NotEqual, Twiddle}
 
 -- how an operator is written
 abbrev pub signs_of : Operator → List ℕ
-signs_of (Compares how) = comparison.signs_of how
+signs_of (Compares how) = comparison.signs_of Single how
 signs_of NotEqual = codes "!="
 signs_of Twiddle = codes "~>"
 

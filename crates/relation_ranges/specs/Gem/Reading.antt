@@ -1,9 +1,7 @@
 -- RubyGems' requirements (`Gem::Requirement::PATTERN`): an operator or none, blanks or none, and a version. That a text is a comma
 -- list of them is this project's own.
 use Rattle.std.specs.Prelude.{ℕ, List, None}
-use Rattle.vx_text.specs.Past.{first_past}
 use Rattle.vx_range.specs.Lists.{Plain}
-use Rattle.vx_range.specs.Reading as ranges
 use Rattle.gem_scheme.specs.Version.{Fields}
 use Rattle.gem_scheme.specs.Spelling.{Spells}
 use Rattle.relation_ranges.specs.declared.relations.Relation.{Relation}
@@ -23,10 +21,6 @@ IsCut = relations.IsCut None
 abbrev pub ReadsAs : Plain → GemRelation → Type 0
 ReadsAs = relations.ReadsAs is_sign HasSigns Spells
 
--- the first numeral of its version that is past the limit begins at this place: the first run of digits that passes it
-abbrev pub IsPast : Plain → ℕ → Type 0
-IsPast = relations.IsPast is_sign HasSigns Spells first_past
-
 -- The text reads as these terms of one requirement each, with numerals of any length.
 abbrev pub Reads : List ℕ → List (List GemRelation) → Type 0
-Reads = ranges.Reads IsCut ReadsAs
+Reads = relations.Reads None is_sign HasSigns Spells

@@ -2,7 +2,7 @@
 use Rattle.std.proofs.Common.{◌≡◌, ◌≢◌, ◌&&◌, ◌||◌, not, ℕ, Bool, true, false, List, [], ◌∷◌, refl, sym, ap, ◌∙◌, subst, inl, inr, Option, Some, None, Ok}
 use Rattle.std.specs.Prelude.{⊤}
 use Rattle.std.specs.List.{AllByRecursion}
-use Rattle.std.specs.Ordering.{is_eq, is_lt, is_le, is_gt, is_ge}
+use Rattle.std.specs.Ordering.{is_eq, is_le, is_gt}
 use Rattle.std.specs.Cmp.{alike_right}
 use Rattle.std.proofs.Math.Bool.{or-false, and-true}
 use Rattle.std.proofs.lemmas.Bool.{cases_Bool}
@@ -11,20 +11,25 @@ use Rattle.vx_scheme.specs.declared.span.Cut.{Cut}
 use Rattle.vx_scheme.specs.declared.span.Span.{Span}
 use Rattle.vx_scheme.specs.Cuts.{stands_below, cut_below, in_spans, cuts_of, starts_of, spans_of}
 use Rattle.vx_scheme.specs.Native.{BackLaws, PrintsSpans, IsSpans, EachVersion, by_domain}
-use Rattle.vx_scheme.proofs.CutLaws.{cut_below-lower}
 use Rattle.deb_scheme.specs.Version.{Fields}
-use Rattle.deb_scheme.specs.Spelling.{IsVersion}
+use Rattle.deb_scheme.specs.Spelling.{IsVersion, Spells}
 use Rattle.deb_scheme.specs.Order.{order_of, order_total}
 use Rattle.relation_ranges.specs.Deb.Reading.{DebRelation, Reads}
-use Rattle.relation_ranges.specs.Deb.Holds.{is_so, holds}
+use Rattle.relation_ranges.specs.Comparison.{is_sign, is_so}
+use Rattle.relation_ranges.specs.Bounds.{span_terms, upper_comparison}
+use Rattle.relation_ranges.specs.Deb.Operators.{HasSigns, bar}
+use Rattle.relation_ranges.specs.Deb.Holds.{holds}
 use Rattle.vx_range.specs.Making.{terms_hold}
 use Rattle.vx_range.specs.Spans.{is_point}
 use Rattle.vx_range.specs.Laws.Points as points
-use Rattle.vx_range.specs.Laws.Gaps.{IsRising, after_cut, equal_of, point_says, spans_are, spans_say}
+use Rattle.vx_range.specs.Laws.Gaps.{IsRising, after_cut, equal_of}
 use Rattle.relation_ranges.specs.Range.{relation_holds}
 use Rattle.relation_ranges.specs.Deb.Range.{IsRange, In}
+use Rattle.relation_ranges.specs.Laws.Bounds as bounds
+use Rattle.relation_ranges.specs.Laws.Back.{lower_first, upper_first, terms_print}
+use Rattle.relation_ranges.specs.Laws.Compared.{lower_by, upper_by}
 use Rattle.relation_ranges.specs.Laws.DebRange.{one_reads}
-use Rattle.relation_ranges.specs.Deb.Back.{range_text, lower_operator, upper_operator, lower_relation, upper_relation, upper_end, gap_end, terms_behind, single_terms, back_terms, back}
+use Rattle.relation_ranges.specs.Deb.Back.{range_text, lower_relation, upper_relation, upper_end, gap_end, terms_behind, back_terms, back}
 use Rattle.relation_ranges.specs.Laws.DebWritten.{TermIs, written_read}
 
 -- the relation holds of the version
@@ -33,37 +38,23 @@ is_held = relation_holds holds
 
 -- ---- bounds
 
-over_before : (bound v : Fields) → stands_below (order_of bound v) false ≡ is_ge (order_of v bound)
-over_before = points.over_before order_of order_total
-
 over_after : (bound v : Fields) → stands_below (order_of bound v) true ≡ is_gt (order_of v bound)
 over_after = points.over_after order_of order_total
-
-under_before : (bound v : Fields) → not (stands_below (order_of bound v) false) ≡ is_lt (order_of v bound)
-under_before = points.under_before order_of order_total
 
 under_after : (bound v : Fields) → not (stands_below (order_of bound v) true) ≡ is_le (order_of v bound)
 under_after = points.under_after order_of order_total
 
-lower_by : (after : Bool) (w v : Fields) → is_so (lower_operator after) (order_of v w) ≡ stands_below (order_of w v) after
-lower_by false w v = sym (over_before w v)
-lower_by true w v = sym (over_after w v)
-
-upper_by : (after : Bool) (w v : Fields) → is_so (upper_operator after) (order_of v w) ≡ not (stands_below (order_of w v) after)
-upper_by false w v = sym (under_before w v)
-upper_by true w v = sym (under_after w v)
-
 lower_says : (v : Fields) (cut : Cut Fields) → is_held (lower_relation cut) v ≡ cut_below order_of cut v
-lower_says v cut = lower_by cut.after cut.version v
+lower_says v cut = lower_by order_of order_total cut.after cut.version v
 
 upper_says : (v : Fields) (cut : Cut Fields) → is_held (upper_relation cut) v ≡ not (cut_below order_of cut v)
-upper_says v cut = upper_by cut.after cut.version v
+upper_says v cut = upper_by order_of order_total cut.after cut.version v
 
 lower_one : (v : Fields) (cut : Cut Fields) → (is_held (lower_relation cut) v || false) ≡ cut_below order_of cut v
-lower_one v cut = or-false _ ∙ lower_says v cut
+lower_one v cut = bounds.lower_one (λ c. c) order_of order_total holds v (λ _ _. ⊤) (λ _ _ _. refl) cut tt
 
 upper_one : (v : Fields) (cut : Cut Fields) → (is_held (upper_relation cut) v || false) ≡ not (cut_below order_of cut v)
-upper_one v cut = or-false _ ∙ upper_says v cut
+upper_one v cut = bounds.upper_one (λ c. c) order_of order_total holds v (λ _ _. ⊤) (λ _ _ _. refl) cut tt
 
 -- ---- behind an upper bound, with the cuts behind it
 
@@ -80,7 +71,7 @@ end_says v d e = elim (cases_Bool (is_point order_of d e)) [
 ]
 
 -- the upper bound of a span, of which a point has the version before it
-point_end_says : (c d : Bool) (a b v : Fields) → ((not c && d) && is_eq (order_of a b)) ≡ true → is_so (upper_operator d) (order_of v a) ≡ not (stands_below (order_of b v) d)
+point_end_says : (c d : Bool) (a b v : Fields) → ((not c && d) && is_eq (order_of a b)) ≡ true → is_so (upper_comparison d) (order_of v a) ≡ not (stands_below (order_of b v) d)
 point_end_says false true a b v is = ap is_le (alike_right order_total a b v (equal_of (order_of a b) is)) ∙ sym (under_after b v)
 point_end_says false false a b v is = absurd (cc is)
 point_end_says true d a b v is = absurd (cc is)
@@ -102,11 +93,8 @@ behind_says v before d (e ∷ f ∷ cuts) = λ i. gap_says v before d e i && beh
 
 -- ---- a single span
 
-pair_says : (v : Fields) (c d : Cut Fields) → terms_hold is_held (single_terms (Some c) (Some d)) v ≡ (cut_below order_of c v && not (cut_below order_of d v))
-pair_says v c d = elim (cases_Bool (is_point order_of c d)) [
-  | inl is ↦ rw is (and-true _ ∙ or-false _ ∙ sym (point_says order_of order_total c.after d.after c.version d.version v is))
-  | inr other ↦ rw other (λ i. lower_one v c i && (and-true (is_held (upper_relation d) v || false) ∙ upper_one v d) i)
-]
+pair_says : (v : Fields) (c d : Cut Fields) → terms_hold is_held (span_terms (λ c. c) order_of (Some c) (Some d)) v ≡ (cut_below order_of c v && not (cut_below order_of d v))
+pair_says v c d = bounds.pair_says (λ c. c) order_of order_total holds v (λ _ _. ⊤) (λ _ _ _. refl) c d tt tt (λ _. tt)
 
 -- ---- all spans
 
@@ -114,22 +102,12 @@ spans_hold : (v : Fields) (starts : Bool) (cuts : List (Cut Fields)) → IsRisin
 spans_hold v false [] rising some = absurd (some refl)
 spans_hold v false (c ∷ []) rising some = or-false _ ∙ and-true _ ∙ sym (and-true _ ∙ lower_one v c)
 spans_hold v false (c ∷ d ∷ []) rising some = or-false _ ∙ sym (pair_says v c d)
-spans_hold v false (c ∷ d ∷ e ∷ []) rising some =
-    ap (λ r. (cut_below order_of c v && not (cut_below order_of d v)) || r) (spans_say order_of order_total v (e ∷ []))
-    ∙ spans_are order_of order_total v (cut_below order_of c v) d (e ∷ []) (cut_below-lower order_of order_total c d v rising.0.0) rising.1
-    ∙ sym (λ i. lower_one v c i && behind_says v (Some c) d (e ∷ []) i)
-spans_hold v false (c ∷ d ∷ e ∷ f ∷ cuts) rising some =
-    ap (λ r. (cut_below order_of c v && not (cut_below order_of d v)) || r) (spans_say order_of order_total v (e ∷ f ∷ cuts))
-    ∙ spans_are order_of order_total v (cut_below order_of c v) d (e ∷ f ∷ cuts) (cut_below-lower order_of order_total c d v rising.0.0) rising.1
-    ∙ sym (λ i. lower_one v c i && behind_says v (Some c) d (e ∷ f ∷ cuts) i)
+spans_hold v false (c ∷ d ∷ e ∷ []) rising some = lower_first order_of order_total v c d (e ∷ []) rising ∙ sym (λ i. lower_one v c i && behind_says v (Some c) d (e ∷ []) i)
+spans_hold v false (c ∷ d ∷ e ∷ f ∷ cuts) rising some = lower_first order_of order_total v c d (e ∷ f ∷ cuts) rising ∙ sym (λ i. lower_one v c i && behind_says v (Some c) d (e ∷ f ∷ cuts) i)
 spans_hold v true [] rising some = refl
 spans_hold v true (c ∷ []) rising some = or-false _ ∙ sym (and-true _ ∙ upper_one v c)
-spans_hold v true (c ∷ e ∷ []) rising some =
-    ap (λ r. not (cut_below order_of c v) || r) (spans_say order_of order_total v (e ∷ []))
-    ∙ spans_are order_of order_total v true c (e ∷ []) (λ _. refl) rising ∙ sym (behind_says v None c (e ∷ []))
-spans_hold v true (c ∷ e ∷ f ∷ cuts) rising some =
-    ap (λ r. not (cut_below order_of c v) || r) (spans_say order_of order_total v (e ∷ f ∷ cuts))
-    ∙ spans_are order_of order_total v true c (e ∷ f ∷ cuts) (λ _. refl) rising ∙ sym (behind_says v None c (e ∷ f ∷ cuts))
+spans_hold v true (c ∷ e ∷ []) rising some = upper_first order_of order_total v c (e ∷ []) rising ∙ sym (behind_says v None c (e ∷ []))
+spans_hold v true (c ∷ e ∷ f ∷ cuts) rising some = upper_first order_of order_total v c (e ∷ f ∷ cuts) rising ∙ sym (behind_says v None c (e ∷ f ∷ cuts))
 
 -- the terms are of one relation or two, of versions
 end_is : (d e : Cut Fields) → IsVersion d.version → IsVersion e.version → IsVersion (gap_end d e).version
@@ -155,16 +133,10 @@ behind_is before d [] p is each = (upper_end_is before d p is, tt)
 behind_is before d (e ∷ []) p is each = ((upper_end_is before d p is, end_is d e is each.0.0), tt)
 behind_is before d (e ∷ f ∷ cuts) p is each = ((upper_end_is before d p is, end_is d e is each.0.0), behind_is (Some e) f cuts each.0.0 each.0.1 each.1)
 
-pair_is : (c d : Cut Fields) → IsVersion c.version → IsVersion d.version → AllByRecursion TermIs (single_terms (Some c) (Some d))
-pair_is c d p q = elim (cases_Bool (is_point order_of c d)) [
-  | inl is ↦ rw is (p, tt)
-  | inr other ↦ rw other (p, (q, tt))
-]
-
 terms_are : (starts : Bool) (cuts : List (Cut Fields)) → EachVersion IsVersion (spans_of starts cuts) → AllByRecursion TermIs (back_terms (spans_of starts cuts))
 terms_are false [] each = tt
 terms_are false (c ∷ []) each = (each.0.0, tt)
-terms_are false (c ∷ d ∷ []) each = pair_is c d each.0.0 each.0.1
+terms_are false (c ∷ d ∷ []) each = bounds.span_are (λ c. c) order_of IsVersion true (Some c) (Some d) each.0.0 each.0.1
 terms_are false (c ∷ d ∷ e ∷ []) each = (each.0.0, behind_is (Some c) d (e ∷ []) each.0.0 each.0.1 each.1)
 terms_are false (c ∷ d ∷ e ∷ f ∷ cuts) each = (each.0.0, behind_is (Some c) d (e ∷ f ∷ cuts) each.0.0 each.0.1 each.1)
 terms_are true [] each = tt
@@ -196,13 +168,7 @@ prints domain spans text is each made =
     let said = printed spans is each in
     let terms = back_terms spans in
     let reads : Reads text terms = subst (λ t. Reads t terms) e (written_read terms said.terms) in
-    record {
-      range = (terms, reads);
-      members = λ v version within. (
-        λ held. said.members v ∙ ap (λ (all : List (List DebRelation)). terms_hold is_held all v) (one_reads text terms held.0 reads held.1) ∙ held.2,
-        λ held. (terms, reads, sym (said.members v) ∙ held),
-      );
-    }
+    terms_print (Some bar) is_sign HasSigns Spells one_reads order_of IsVersion (by_domain (λ _. ⊤) (λ _. ⊤) domain) holds spans text terms reads (λ v within. said.members v)
 
 pub deb_backs : BackLaws order_of IsVersion (by_domain (λ _. ⊤) (λ _. ⊤)) IsRange In back
 deb_backs = record { backward = prints }

@@ -1,5 +1,5 @@
 -- What Debian's table of relations promises.
-use Rattle.std.proofs.Common.{◌≡◌, ◌||◌, ◌+◌, ◌==◌, if◌then◌else◌, ℕ, List, [], ◌∷◌, refl, sym, ap, ◌∙◌}
+use Rattle.std.proofs.Common.{◌≡◌, ◌||◌, ℕ, List, [], ◌∷◌, refl, ◌∙◌}
 use Rattle.std.specs.Prelude.{⊤}
 use Rattle.std.specs.List.{list_any}
 use Rattle.std.proofs.lemmas.List.Folds.{list_any-append}
@@ -10,44 +10,26 @@ use Rattle.vx_scheme.specs.Cuts.{cut_below, span_at, in_spans}
 use Rattle.vx_scheme.specs.Native.{by_domain}
 use Rattle.vx_range.specs.declared.making.Outcome.TheVariants as made
 use Rattle.vx_range.specs.Making.{mark_behind, made_each}
-use Rattle.vx_range.specs.Laws.Points.{point_says, from_says, above_says, below_says, up_to_says}
 use Rattle.deb_scheme.specs.Version.{Fields}
 use Rattle.deb_scheme.specs.Spelling.{IsVersion}
 use Rattle.deb_scheme.specs.Order.{order_of, order_total}
-use Rattle.relation_ranges.specs.declared.deb.operators.Operator.{Operator}
-use Rattle.relation_ranges.specs.declared.deb.operators.Operator.TheVariants.{Earlier, EarlierOrEqual, Equal, LaterOrEqual, Later}
-use Rattle.relation_ranges.specs.Deb.Operators.{signs_of}
+use Rattle.relation_ranges.specs.declared.comparison.Comparison.{Comparison}
+use Rattle.relation_ranges.specs.declared.comparison.Strict.TheVariants.{Doubled}
+use Rattle.relation_ranges.specs.Deb.Operators.{HasSigns}
 use Rattle.relation_ranges.specs.Range.{relation_holds, relation_spans}
-use Rattle.relation_ranges.specs.Deb.Reading.{DebRelation, HasSigns}
+use Rattle.relation_ranges.specs.Deb.Reading.{DebRelation}
 use Rattle.relation_ranges.specs.Deb.Holds.{holds}
 use Rattle.relation_ranges.specs.Deb.Spans.{spans_of}
 use Rattle.relation_ranges.specs.Deb.Refusals.{outcome}
+use Rattle.relation_ranges.specs.Laws.Compared.{compared_says}
+use Rattle.relation_ranges.specs.Laws.Comparison.{one_comparison}
 
--- an operator is told by the sum of its signs
-abbrev sum_of : List ℕ → ℕ
-sum_of [] = 0
-sum_of (b ∷ bytes) = b + sum_of bytes
-
-abbrev operator_by : ℕ → Operator
-operator_by n = if n == 120 then Earlier else (if n == 121 then EarlierOrEqual else (if n == 61 then Equal else (if n == 123 then LaterOrEqual else Later)))
-
-operator_back : (a : Operator) → operator_by (sum_of (signs_of a)) ≡ a
-operator_back Earlier = refl
-operator_back EarlierOrEqual = refl
-operator_back Equal = refl
-operator_back LaterOrEqual = refl
-operator_back Later = refl
-
-pub one_operator : (signs : List ℕ) (a b : Operator) → HasSigns a signs → HasSigns b signs → a ≡ b
-one_operator signs a b p q = sym (operator_back a) ∙ ap (λ s. operator_by (sum_of s)) (sym p ∙ q) ∙ operator_back b
+pub one_operator : (signs : List ℕ) (a b : Comparison) → HasSigns a signs → HasSigns b signs → a ≡ b
+one_operator = one_comparison Doubled
 
 -- the span of a relation holds what the relation holds of
-pub relation_says : (operator : Operator) (bound : Fields) (mark : ℕ) (v : Fields) → in_spans order_of (spans_of mark operator bound) v ≡ holds operator bound v
-relation_says Earlier bound mark v = below_says order_of order_total mark bound v
-relation_says EarlierOrEqual bound mark v = up_to_says order_of order_total mark bound v
-relation_says Equal bound mark v = point_says order_of order_total mark bound v
-relation_says LaterOrEqual bound mark v = from_says order_of order_total mark bound v
-relation_says Later bound mark v = above_says order_of order_total mark bound v
+pub relation_says : (how : Comparison) (bound : Fields) (mark : ℕ) (v : Fields) → in_spans order_of (spans_of mark how bound) v ≡ holds how bound v
+relation_says how bound mark v = compared_says order_of order_total how mark bound v
 
 -- the spans of a term hold what some relation of the term holds of
 pub term_says : (term : List DebRelation) (mark : ℕ) (v : Fields) → in_spans order_of (joined (made_each (relation_spans spans_of) mark term)) v ≡ list_any (λ relation. relation_holds holds relation v) term
@@ -56,9 +38,9 @@ term_says (relation ∷ term) mark v =
     list_any-append (span_at (λ cut. cut_below order_of cut v)) (spans_of mark relation.operator relation.version) (joined (made_each (relation_spans spans_of) (mark_behind (relation_spans spans_of) mark relation) term))
     ∙ (λ i. relation_says relation.operator relation.version mark v i || term_says term (mark_behind (relation_spans spans_of) mark relation) v i)
 
-pub agrees : (domain : Domain) (mark : ℕ) (operator : Operator) (bound v : Fields) → IsVersion v → by_domain (λ _. ⊤) (λ _. ⊤) domain v → outcome domain operator bound ≡ made.Spans → in_spans order_of (spans_of mark operator bound) v ≡ holds operator bound v
+pub agrees : (domain : Domain) (mark : ℕ) (operator : Comparison) (bound v : Fields) → IsVersion v → by_domain (λ _. ⊤) (λ _. ⊤) domain v → outcome domain operator bound ≡ made.Spans → in_spans order_of (spans_of mark operator bound) v ≡ holds operator bound v
 agrees domain mark operator bound v version within spans = relation_says operator bound mark v
 
 -- no relation is without an end
-pub deb_ends : (domain : Domain) (operator : Operator) (bound : Fields) (kind : EndKind) → ¬ (outcome domain operator bound ≡ made.NoEnd kind)
+pub deb_ends : (domain : Domain) (operator : Comparison) (bound : Fields) (kind : EndKind) → ¬ (outcome domain operator bound ≡ made.NoEnd kind)
 deb_ends domain operator bound kind none = cc none

@@ -3,16 +3,17 @@ use Rattle.std.proofs.Common.{◌≡◌, ℕ, true, List, [], ◌∷◌, refl, a
 use Rattle.std.specs.List.{list_all, AllByRecursion}
 use Rattle.std.proofs.lemmas.Bool.{and_parts, and_from}
 use Rattle.std.proofs.lemmas.Bool.Decides.{nat_tests}
+use Rattle.deb_scheme.specs.Version.{Fields}
 use Rattle.deb_scheme.specs.Spelling.{IsVersion, Spells}
 use Rattle.deb_scheme.specs.Writing.{normal}
 use Rattle.deb_scheme.specs.Laws.Texts.{deb_texts}
 use Rattle.deb_scheme.proofs.Bytes.{is_version_byte, spelled_bytes}
-use Rattle.relation_ranges.specs.declared.deb.operators.Operator.{Operator}
-use Rattle.relation_ranges.specs.declared.deb.operators.Operator.TheVariants.{Earlier, EarlierOrEqual, Equal, LaterOrEqual, Later}
-use Rattle.relation_ranges.specs.Deb.Operators.{signs_of}
+use Rattle.relation_ranges.specs.declared.comparison.Strict.TheVariants.{Doubled}
+use Rattle.relation_ranges.specs.Deb.Operators.{HasSigns, signs_of}
 use Rattle.relation_ranges.specs.Comparison.{is_sign}
-use Rattle.relation_ranges.specs.Deb.Reading.{DebRelation, HasSigns, Reads}
+use Rattle.relation_ranges.specs.Deb.Reading.{DebRelation, Reads}
 use Rattle.relation_ranges.specs.Deb.Back.{range_text}
+use Rattle.relation_ranges.specs.Laws.Comparison.{compared_table}
 use Rattle.relation_ranges.specs.Laws.Written as written
 use Rattle.relation_ranges.specs.Laws.Written.{IsWord, IsWritable, is_word_byte, some_text}
 
@@ -25,29 +26,11 @@ all_words (b ∷ text) all =
     let a = and_parts (is_version_byte b) (list_all is_version_byte text) all in
     and_from (is_word_byte b) (list_all is_word_byte text) (byte_word b a.0) (all_words text a.1)
 
-signs_all : (o : Operator) → list_all is_sign (signs_of o) ≡ true
-signs_all Earlier = refl
-signs_all EarlierOrEqual = refl
-signs_all Equal = refl
-signs_all LaterOrEqual = refl
-signs_all Later = refl
-
-signs_word : (o : Operator) → IsWord (signs_of o)
-signs_word Earlier = record { bytes = refl; some = refl }
-signs_word EarlierOrEqual = record { bytes = refl; some = refl }
-signs_word Equal = record { bytes = refl; some = refl }
-signs_word LaterOrEqual = record { bytes = refl; some = refl }
-signs_word Later = record { bytes = refl; some = refl }
+text_word : (v : Fields) → IsVersion v → IsWord (normal v)
+text_word v is = record { bytes = all_words v.text (spelled_bytes v.text v is); some = some_text v.text (deb_texts.normal_spells v is).not_empty }
 
 deb_table : IsWritable is_sign signs_of HasSigns Spells normal IsVersion
-deb_table = record {
-  no_blank = refl;
-  signs_all = signs_all;
-  signs_word = signs_word;
-  signs_are = λ operator. refl;
-  text_word = λ v is. record { bytes = all_words v.text (spelled_bytes v.text v is); some = some_text v.text (deb_texts.normal_spells v is).not_empty };
-  spelled = λ v is. is;
-}
+deb_table = compared_table Doubled Spells normal IsVersion text_word (λ v is. is)
 
 -- one relation or two, of versions
 abbrev pub TermIs : List DebRelation → Type 0

@@ -1,9 +1,8 @@
 -- What RubyGems' range language promises of the way back: the text of spans holds what the spans hold.
-use Rattle.std.proofs.Common.{◌≡◌, ◌≢◌, ◌&&◌, ◌||◌, if◌then◌else◌, not, ℕ, Bool, true, false, List, [], ◌∷◌, ◌++◌, refl, sym, ap, ◌∙◌, subst, inl, inr, Option, Some, None, Ok}
+use Rattle.std.proofs.Common.{◌≡◌, ◌≢◌, ◌&&◌, ◌||◌, if◌then◌else◌, not, ℕ, Bool, true, false, List, [], ◌∷◌, ◌++◌, refl, sym, ap, ◌∙◌, subst, Option, Some, None, Ok}
 use Rattle.std.specs.Prelude.{⊤}
 use Rattle.std.specs.List.{AllByRecursion, list_any}
 use Rattle.std.proofs.Math.Bool.{or-false, and-true}
-use Rattle.std.proofs.lemmas.Bool.{cases_Bool}
 use Rattle.std.proofs.lemmas.List.Folds.{list_all-append}
 use Rattle.vx_spec.proofs.EachLaws.{each_append}
 use Rattle.vx_scheme.specs.declared.domain.Domain.{Domain}
@@ -11,20 +10,22 @@ use Rattle.vx_scheme.specs.declared.span.Cut.{Cut}
 use Rattle.vx_scheme.specs.declared.span.Span.{Span}
 use Rattle.vx_scheme.specs.Cuts.{cut_below, in_spans, cuts_of, starts_of, spans_of}
 use Rattle.vx_scheme.specs.Native.{BackLaws, PrintsSpans, IsSpans, EachVersion, CutIs, by_domain}
-use Rattle.vx_scheme.proofs.CutLaws.{cut_below-lower}
 use Rattle.vx_range.specs.Making.{terms_hold}
 use Rattle.vx_range.specs.Spans.{is_point}
 use Rattle.gem_scheme.specs.Version.{Fields, IsRelease, IsVersion}
 use Rattle.gem_scheme.specs.Order.{order_of, order_total}
+use Rattle.gem_scheme.specs.Spelling.{Spells}
 use Rattle.relation_ranges.specs.declared.gem.operators.Operator.TheVariants.{Compares, NotEqual}
 use Rattle.relation_ranges.specs.Range.{relation_holds}
 use Rattle.relation_ranges.specs.Bounds.{lower_relation, upper_relation, bound_term, span_terms}
 use Rattle.relation_ranges.specs.Gem.Reading.{GemRelation, Reads}
+use Rattle.relation_ranges.specs.Gem.Operators.{HasSigns, is_sign}
 use Rattle.relation_ranges.specs.Gem.Holds.{holds}
 use Rattle.relation_ranges.specs.Gem.Range.{IsRange, In}
 use Rattle.relation_ranges.specs.Gem.Back.{range_text, hole_term, hole_terms, last_upper, back_terms, first_gap, text_unless, back}
-use Rattle.relation_ranges.specs.Laws.Compared.{lower_by, upper_by}
-use Rattle.vx_range.specs.Laws.Gaps.{IsRising, after_cut, hole_says, point_says, spans_are, spans_say}
+use Rattle.relation_ranges.specs.Laws.Bounds as bounds
+use Rattle.relation_ranges.specs.Laws.Back.{lower_first, upper_first, terms_print}
+use Rattle.vx_range.specs.Laws.Gaps.{IsRising, after_cut, hole_says}
 use Rattle.relation_ranges.specs.Laws.GemRange.{one_reads}
 use Rattle.relation_ranges.specs.Laws.GemWords.{TermIs, written_read}
 
@@ -38,10 +39,10 @@ hold = terms_hold is_held
 -- ---- bounds and holes
 
 lower_one : (v : Fields) (cut : Cut Fields) → (is_held (lower_relation Compares cut) v || false) ≡ cut_below order_of cut v
-lower_one v cut = or-false _ ∙ lower_by order_of order_total cut.after cut.version v
+lower_one v cut = bounds.lower_one Compares order_of order_total holds v (λ _ _. ⊤) (λ _ _ _. refl) cut tt
 
 upper_one : (v : Fields) (cut : Cut Fields) → (is_held (upper_relation Compares cut) v || false) ≡ not (cut_below order_of cut v)
-upper_one v cut = or-false _ ∙ upper_by order_of order_total cut.after cut.version v
+upper_one v cut = bounds.upper_one Compares order_of order_total holds v (λ _ _. ⊤) (λ _ _ _. refl) cut tt
 
 hole_one : (v : Fields) (d e : Cut Fields) → is_point order_of d e ≡ true → hold (hole_term (Some d)) v ≡ (not (cut_below order_of d v) || cut_below order_of e v)
 hole_one v d e is = and-true _ ∙ or-false _ ∙ sym (hole_says order_of order_total d.after e.after d.version e.version v is)
@@ -79,10 +80,7 @@ behind_says v before d (e ∷ f ∷ cuts) none =
 -- ---- a single span
 
 pair_says : (v : Fields) (c d : Cut Fields) → hold (span_terms Compares order_of (Some c) (Some d)) v ≡ (cut_below order_of c v && not (cut_below order_of d v))
-pair_says v c d = elim (cases_Bool (is_point order_of c d)) [
-  | inl is ↦ rw is (and-true _ ∙ or-false _ ∙ sym (point_says order_of order_total c.after d.after c.version d.version v is))
-  | inr other ↦ rw other (λ i. lower_one v c i && (and-true (is_held (upper_relation Compares d) v || false) ∙ upper_one v d) i)
-]
+pair_says v c d = bounds.pair_says Compares order_of order_total holds v (λ _ _. ⊤) (λ _ _ _. refl) c d tt tt (λ _. tt)
 
 -- ---- all spans
 
@@ -107,22 +105,12 @@ spans_hold : (v : Fields) (starts : Bool) (cuts : List (Cut Fields)) → IsRisin
 spans_hold v false [] rising some none = absurd (some refl)
 spans_hold v false (c ∷ []) rising some none = or-false _ ∙ and-true _ ∙ sym (and-true _ ∙ lower_one v c)
 spans_hold v false (c ∷ d ∷ []) rising some none = or-false _ ∙ sym (pair_says v c d)
-spans_hold v false (c ∷ d ∷ e ∷ []) rising some none =
-    ap (λ r. (cut_below order_of c v && not (cut_below order_of d v)) || r) (spans_say order_of order_total v (e ∷ []))
-    ∙ spans_are order_of order_total v (cut_below order_of c v) d (e ∷ []) (cut_below-lower order_of order_total c d v rising.0.0) rising.1
-    ∙ behind_lower v c d (e ∷ []) none
-spans_hold v false (c ∷ d ∷ e ∷ f ∷ cuts) rising some none =
-    ap (λ r. (cut_below order_of c v && not (cut_below order_of d v)) || r) (spans_say order_of order_total v (e ∷ f ∷ cuts))
-    ∙ spans_are order_of order_total v (cut_below order_of c v) d (e ∷ f ∷ cuts) (cut_below-lower order_of order_total c d v rising.0.0) rising.1
-    ∙ behind_lower v c d (e ∷ f ∷ cuts) none
+spans_hold v false (c ∷ d ∷ e ∷ []) rising some none = lower_first order_of order_total v c d (e ∷ []) rising ∙ behind_lower v c d (e ∷ []) none
+spans_hold v false (c ∷ d ∷ e ∷ f ∷ cuts) rising some none = lower_first order_of order_total v c d (e ∷ f ∷ cuts) rising ∙ behind_lower v c d (e ∷ f ∷ cuts) none
 spans_hold v true [] rising some none = refl
 spans_hold v true (c ∷ []) rising some none = or-false _ ∙ sym (and-true _ ∙ upper_one v c)
-spans_hold v true (c ∷ e ∷ []) rising some none =
-    ap (λ r. not (cut_below order_of c v) || r) (spans_say order_of order_total v (e ∷ []))
-    ∙ spans_are order_of order_total v true c (e ∷ []) (λ _. refl) rising ∙ behind_none v c (e ∷ []) none
-spans_hold v true (c ∷ e ∷ f ∷ cuts) rising some none =
-    ap (λ r. not (cut_below order_of c v) || r) (spans_say order_of order_total v (e ∷ f ∷ cuts))
-    ∙ spans_are order_of order_total v true c (e ∷ f ∷ cuts) (λ _. refl) rising ∙ behind_none v c (e ∷ f ∷ cuts) none
+spans_hold v true (c ∷ e ∷ []) rising some none = upper_first order_of order_total v c (e ∷ []) rising ∙ behind_none v c (e ∷ []) none
+spans_hold v true (c ∷ e ∷ f ∷ cuts) rising some none = upper_first order_of order_total v c (e ∷ f ∷ cuts) rising ∙ behind_none v c (e ∷ f ∷ cuts) none
 
 -- ---- the terms are of one requirement each, of versions
 
@@ -134,15 +122,6 @@ bounds_are : (lower upper : Option (Cut Fields)) → CutIs IsVersion lower → C
 bounds_are lower upper p q =
     each_append TermIs (bound_term (lower_relation Compares) lower) (bound_term (upper_relation Compares) upper)
     (bound_is (lower_relation Compares) (λ cut is. is) lower p) (bound_is (upper_relation Compares) (λ cut is. is) upper q)
-
-single_is : (lower upper : Option (Cut Fields)) → CutIs IsVersion lower → CutIs IsVersion upper → AllByRecursion TermIs (span_terms Compares order_of lower upper)
-single_is None None p q = tt
-single_is None (Some d) p q = (q, tt)
-single_is (Some c) None p q = (p, tt)
-single_is (Some c) (Some d) p q = elim (cases_Bool (is_point order_of c d)) [
-  | inl is ↦ rw is (p, tt)
-  | inr other ↦ rw other (p, (q, tt))
-]
 
 hole_is_term : (upper : Option (Cut Fields)) → CutIs IsVersion upper → AllByRecursion TermIs (hole_term upper)
 hole_is_term None is = tt
@@ -159,7 +138,7 @@ last_is span (next ∷ spans) each = last_is next spans each.1
 
 terms_are : (spans : List (Span Fields)) → EachVersion IsVersion spans → AllByRecursion TermIs (back_terms spans)
 terms_are [] each = tt
-terms_are (span ∷ []) each = single_is span.lower span.upper each.0.0 each.0.1
+terms_are (span ∷ []) each = bounds.span_are Compares order_of IsVersion false span.lower span.upper each.0.0 each.0.1
 terms_are (span ∷ next ∷ spans) each =
     each_append TermIs (bound_term (lower_relation Compares) span.lower ++ bound_term (upper_relation Compares) (last_upper next spans)) (hole_terms (span ∷ next ∷ spans))
     (bounds_are span.lower (last_upper next spans) each.0.0 (last_is next spans each.1)) (holes_are (span ∷ next ∷ spans) each)
@@ -185,13 +164,7 @@ prints domain spans text is each made =
     let e = text_is (first_gap spans) terms text made in
     let says = printed spans is e.0 in
     let reads : Reads text terms = subst (λ t. Reads t terms) e.1 (written_read terms (terms_are spans each)) in
-    record {
-      range = (terms, reads);
-      members = λ v version within. (
-        λ held. says v ∙ ap (λ (all : List (List GemRelation)). hold all v) (one_reads text terms held.0 reads held.1) ∙ held.2,
-        λ held. (terms, reads, sym (says v) ∙ held),
-      );
-    }
+    terms_print None is_sign HasSigns Spells one_reads order_of IsVersion (by_domain (λ _. ⊤) IsRelease domain) holds spans text terms reads (λ v within. says v)
 
 pub gem_backs : BackLaws order_of IsVersion (by_domain (λ _. ⊤) IsRelease) IsRange In back
 gem_backs = record { backward = prints }

@@ -21,16 +21,12 @@ use Rattle.relation_ranges.specs.Gem.Operators.{HasSigns, signs_of}
 use Rattle.relation_ranges.specs.Gem.Holds.{holds}
 use Rattle.relation_ranges.specs.Gem.Spans.{outcome, spans_of}
 use Rattle.relation_ranges.specs.Laws.Compared.{compared_says}
+use Rattle.relation_ranges.specs.Laws.Comparison.{comparison_by, sum_of}
 use Rattle.vx_range.specs.Laws.Gaps.{apart_is}
 
 -- an operator is told by the sum of its signs
-abbrev sum_of : List ℕ → ℕ
-sum_of [] = 0
-sum_of (b ∷ bytes) = b + sum_of bytes
-
 abbrev operator_by : ℕ → Operator
-operator_by n =
-    if n == 60 then Compares Less else (if n == 121 then Compares LessOrEqual else (if n == 123 then Compares GreaterOrEqual else (if n == 62 then Compares Greater else (if n == 94 then NotEqual else (if n == 188 then Twiddle else Compares Equal)))))
+operator_by n = if n == 94 then NotEqual else (if n == 188 then Twiddle else Compares (comparison_by n))
 
 operator_back : (a : Operator) → operator_by (sum_of (signs_of a)) ≡ a
 operator_back (Compares Less) = refl

@@ -10,15 +10,18 @@ use Rattle.vx_spec.proofs.TextLaws.{each_by_test, each_joined, test_by_each}
 use Rattle.vx_scheme.specs.declared.ident.Ident.{Ident}
 use Rattle.vx_scheme.specs.declared.ident.Ident.TheVariants.{Number, Word}
 use Rattle.gem_scheme.specs.Version.{Fields, IsVersion, is_segment}
-use Rattle.gem_scheme.specs.Spelling.{Spells, dot}
+use Rattle.vx_spec.specs.Signs.{dot}
+use Rattle.gem_scheme.specs.Spelling.{Spells}
 use Rattle.gem_scheme.specs.Writing.{normal, segment_text}
 use Rattle.gem_scheme.specs.Laws.Texts.{gem_texts, normal_is}
 use Rattle.relation_ranges.specs.declared.comparison.Comparison.TheVariants.{Less, LessOrEqual, Equal, GreaterOrEqual, Greater}
+use Rattle.relation_ranges.specs.declared.comparison.Strict.TheVariants.{Single}
 use Rattle.relation_ranges.specs.declared.gem.operators.Operator.{Operator}
 use Rattle.relation_ranges.specs.declared.gem.operators.Operator.TheVariants.{Compares, NotEqual, Twiddle}
 use Rattle.relation_ranges.specs.Gem.Operators.{HasSigns, is_sign, signs_of}
 use Rattle.relation_ranges.specs.Gem.Reading.{GemRelation, Reads}
 use Rattle.relation_ranges.specs.Gem.Back.{range_text}
+use Rattle.relation_ranges.specs.Laws.Comparison as comparison
 use Rattle.relation_ranges.specs.Laws.Written as written
 use Rattle.relation_ranges.specs.Laws.Written.{IsWord, IsWritable, is_word_byte, some_text}
 
@@ -61,11 +64,7 @@ signs_all NotEqual = refl
 signs_all Twiddle = refl
 
 signs_word : (o : Operator) → IsWord (signs_of o)
-signs_word (Compares Less) = record { bytes = refl; some = refl }
-signs_word (Compares LessOrEqual) = record { bytes = refl; some = refl }
-signs_word (Compares Equal) = record { bytes = refl; some = refl }
-signs_word (Compares GreaterOrEqual) = record { bytes = refl; some = refl }
-signs_word (Compares Greater) = record { bytes = refl; some = refl }
+signs_word (Compares how) = comparison.signs_word Single how
 signs_word NotEqual = record { bytes = refl; some = refl }
 signs_word Twiddle = record { bytes = refl; some = refl }
 

@@ -17,14 +17,14 @@ use Rattle.vx_scheme.specs.declared.domain.Domain.TheVariants.{All, Releases}
 use Rattle.vx_scheme.specs.declared.range_fault.EndKind.{EndKind}
 use Rattle.vx_scheme.specs.declared.range_fault.EndKind.TheVariants as end_kind
 use Rattle.vx_scheme.specs.Native.{by_domain}
-use Rattle.vx_text.specs.EpochParts.{colon, hyphen}
+use Rattle.vx_spec.specs.Signs.{caret, colon, hyphen, tilde}
 use Rattle.vx_text.proofs.PastLaws.{numeral_bytes}
 use Rattle.vx_order.specs.declared.letter.Letter.{Letter}
 use Rattle.vx_order.specs.Letters.{letters_cmp}
 use Rattle.vx_order.proofs.LetterLaws.{letters_total}
 use Rattle.vx_range.specs.declared.making.Outcome.TheVariants as made
 use Rattle.vx_range.specs.Apart.{AreToldApart}
-use Rattle.rpm_scheme.specs.Version.{Fields, HasRelease, IsWithoutRelease, caret, count_letter, end_rank, letters_of, tilde}
+use Rattle.rpm_scheme.specs.Version.{Fields, HasRelease, IsWithoutRelease, count_letter, end_rank, letters_of}
 use Rattle.rpm_scheme.specs.Order.{order_of, release_key}
 use Rattle.rpm_scheme.specs.Spelling.{IsVersion, is_part, is_part_byte, release_letters}
 use Rattle.relation_ranges.specs.declared.comparison.Comparison.{Comparison}

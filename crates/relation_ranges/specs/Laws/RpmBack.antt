@@ -17,19 +17,22 @@ use Rattle.vx_scheme.proofs.CutLaws.{cut_below-lower}
 use Rattle.vx_range.specs.Making.{terms_hold}
 use Rattle.vx_range.specs.Spans.{is_point}
 use Rattle.rpm_scheme.specs.Version.{Fields, HasRelease, IsWithoutRelease}
-use Rattle.rpm_scheme.specs.Spelling.{IsVersion}
+use Rattle.rpm_scheme.specs.Spelling.{IsVersion, Spells}
 use Rattle.rpm_scheme.specs.Order.{order_of, order_total}
 use Rattle.rpm_scheme.proofs.ReleaseLaws.{front_spells}
+use Rattle.relation_ranges.specs.declared.comparison.Comparison.{Comparison}
 use Rattle.relation_ranges.specs.declared.comparison.Comparison.TheVariants.{Equal}
+use Rattle.relation_ranges.specs.Comparison.{is_sign, is_so}
 use Rattle.relation_ranges.specs.Range.{relation_holds}
 use Rattle.relation_ranges.specs.Bounds.{lower_comparison, lower_relation, span_terms, upper_comparison, upper_relation}
-use Rattle.relation_ranges.specs.Rpm.Reading.{RpmRelation, Reads}
+use Rattle.relation_ranges.specs.Rpm.Reading.{HasSigns, RpmRelation, Reads}
 use Rattle.relation_ranges.specs.Rpm.Holds.{holds}
 use Rattle.relation_ranges.specs.Rpm.Range.{IsRange, In}
 use Rattle.relation_ranges.specs.Rpm.Spans.{has_release, is_open, named_in}
 use Rattle.relation_ranges.specs.Rpm.Back.{back, joined_from, joined_spans, kept, meets, moved, moved_bound, moved_span, range_text, text_of}
-use Rattle.relation_ranges.specs.Laws.Compared.{lower_by, upper_by}
-use Rattle.vx_range.specs.Laws.Gaps.{equal_of, point_says}
+use Rattle.vx_range.specs.Laws.Gaps.{equal_of}
+use Rattle.relation_ranges.specs.Laws.Bounds as bounds
+use Rattle.relation_ranges.specs.Laws.Back.{terms_print}
 use Rattle.relation_ranges.specs.Laws.RpmOrder.{Fits, equal_has, named_none, same_in}
 use Rattle.relation_ranges.specs.Laws.RpmRange.{one_reads}
 use Rattle.relation_ranges.specs.Laws.RpmTable.{moved_parts}
@@ -273,32 +276,29 @@ point_fits All c d is fits fits' =
 point_fits Releases c d is fits fits' = fits
 
 module _ (domain : Domain) (v : Fields) (within : InDomain domain v) where
+  tested : (how : Comparison) (bound : Fields) → Fits domain how bound → holds how bound v ≡ is_so how (order_of v bound)
+  tested how bound fits = sym (same_in domain how bound v within fits)
+
   lower_one : (cut : Cut Fields) → FitCut domain cut → (is_held (lower_relation (λ c. c) cut) v || false) ≡ cut_below order_of cut v
-  lower_one cut fits = or-false _ ∙ sym (same_in domain (lower_comparison cut.after) cut.version v within (lower_fits domain cut fits)) ∙ lower_by order_of order_total cut.after cut.version v
+  lower_one cut fits = bounds.lower_one (λ c. c) order_of order_total holds v (Fits domain) tested cut (lower_fits domain cut fits)
 
   upper_one : (cut : Cut Fields) → FitCut domain cut → (is_held (upper_relation (λ c. c) cut) v || false) ≡ not (cut_below order_of cut v)
-  upper_one cut fits = or-false _ ∙ sym (same_in domain (upper_comparison cut.after) cut.version v within (upper_fits domain cut fits)) ∙ upper_by order_of order_total cut.after cut.version v
+  upper_one cut fits = bounds.upper_one (λ c. c) order_of order_total holds v (Fits domain) tested cut (upper_fits domain cut fits)
 
   span_says : (lower upper : Option (Cut Fields)) → IsMoved domain lower → IsMoved domain upper
       → hold (span_terms (λ c. c) order_of lower upper) v ≡ (over v lower && not (past v upper))
   span_says None None p q = refl
   span_says None (Some d) p q = and-true _ ∙ upper_one d q.0
   span_says (Some c) None p q = λ i. lower_one c p.0 i && true
-  span_says (Some c) (Some d) p q = elim (cases_Bool (is_point order_of c d)) [
-    | inl is ↦ rw is (
-        and-true _ ∙ or-false _ ∙ sym (same_in domain Equal c.version v within (point_fits domain c d is p.0 q.0))
-        ∙ sym (point_says order_of order_total c.after d.after c.version d.version v is))
-    | inr other ↦ rw other (λ i. lower_one c p.0 i && (and-true (is_held (upper_relation (λ x. x) d) v || false) ∙ upper_one d q.0) i)
-  ]
+  span_says (Some c) (Some d) p q =
+      bounds.pair_says (λ c. c) order_of order_total holds v (Fits domain) tested c d (lower_fits domain c p.0) (upper_fits domain d q.0) (λ is. point_fits domain c d is p.0 q.0)
+
+moved_is : (domain : Domain) (cut : Option (Cut Fields)) → IsMoved domain cut → CutIs IsVersion cut
+moved_is domain None p = tt
+moved_is domain (Some cut) p = p.1
 
 span_terms_are : (domain : Domain) (lower upper : Option (Cut Fields)) → IsMoved domain lower → IsMoved domain upper → AllByRecursion TermIs (span_terms (λ c. c) order_of lower upper)
-span_terms_are domain None None p q = tt
-span_terms_are domain None (Some d) p q = (q.1, tt)
-span_terms_are domain (Some c) None p q = (p.1, tt)
-span_terms_are domain (Some c) (Some d) p q = elim (cases_Bool (is_point order_of c d)) [
-  | inl is ↦ rw is (p.1, tt)
-  | inr other ↦ rw other (p.1, (q.1, tt))
-]
+span_terms_are domain lower upper p q = bounds.span_are (λ c. c) order_of IsVersion false lower upper (moved_is domain lower p) (moved_is domain upper q)
 
 -- ---- the law
 
@@ -334,13 +334,7 @@ prints domain spans text is each made =
     let says : (v : Fields) → InDomain domain v → in_spans order_of spans v ≡ hold terms v =
     λ v within. sym (left_say domain spans is v within) ∙ ap (λ s. in_spans order_of s v) one.single ∙ or-false _ ∙ span_is v span ∙ sym (span_says domain v within span.lower span.upper moved'.0.0 moved'.0.1) in
     let reads : Reads text terms = subst (λ t. Reads t terms) one.made (written_read terms (span_terms_are domain span.lower span.upper moved'.0.0 moved'.0.1)) in
-    record {
-      range = (terms, reads);
-      members = λ v version within. (
-        λ held. says v within ∙ ap (λ (all : List (List RpmRelation)). hold all v) (one_reads text terms held.0 reads held.1) ∙ held.2,
-        λ held. (terms, reads, sym (says v within) ∙ held),
-      );
-    }
+    terms_print None is_sign HasSigns Spells one_reads order_of IsVersion (InDomain domain) holds spans text terms reads says
 
 pub rpm_backs : BackLaws order_of IsVersion InDomain IsRange In back
 rpm_backs = record { backward = prints }

@@ -15,7 +15,8 @@ use Rattle.vx_order.specs.Letters.{end_letter, letter_cmp, letters_cmp}
 use Rattle.vx_order.proofs.LetterLaws.{letter_total}
 use Rattle.vx_order.specs.Scanning.{behind_token, scanned_in}
 use Rattle.vx_order.specs.Laws.Scanning.{token_number, token_word}
-use Rattle.rpm_scheme.specs.Version.{tilde, caret, tilde_rank, end_rank, caret_rank, number_rank, sign_letter, sign_letters, word_letter, first_letters, count_letter, letters_of}
+use Rattle.vx_spec.specs.Signs.{caret, tilde}
+use Rattle.rpm_scheme.specs.Version.{tilde_rank, end_rank, caret_rank, number_rank, sign_letter, sign_letters, word_letter, first_letters, count_letter, letters_of}
 use Rattle.rpm_scheme.specs.Order.{release_key}
 use Rattle.relation_ranges.specs.Rpm.Apart.{greatest_number}
 

@@ -1,5 +1,5 @@
 -- What RPM's table of relations promises.
-use Rattle.std.proofs.Common.{◌≡◌, ◌||◌, ◌&&◌, ◌+◌, ◌==◌, if◌then◌else◌, ℕ, Bool, true, false, List, [], ◌∷◌, refl, sym, ap, ◌∙◌, inl, inr}
+use Rattle.std.proofs.Common.{◌≡◌, ◌||◌, ◌&&◌, if◌then◌else◌, ℕ, Bool, true, false, List, refl, ap, ◌∙◌, inl, inr}
 use Rattle.std.proofs.Math.Bool.{or-false, or-true, and-true}
 use Rattle.std.proofs.lemmas.Bool.{cases_Bool}
 use Rattle.std.specs.Option.{is_some}
@@ -14,32 +14,17 @@ use Rattle.rpm_scheme.specs.Version.{Fields, HasRelease, IsWithoutRelease}
 use Rattle.rpm_scheme.specs.Spelling.{IsVersion}
 use Rattle.rpm_scheme.specs.Order.{order_of, order_total}
 use Rattle.relation_ranges.specs.declared.comparison.Comparison.{Comparison}
-use Rattle.relation_ranges.specs.declared.comparison.Comparison.TheVariants.{Less, LessOrEqual, Equal, GreaterOrEqual, Greater}
-use Rattle.relation_ranges.specs.Comparison.{signs_of}
+use Rattle.relation_ranges.specs.declared.comparison.Strict.TheVariants.{Single}
 use Rattle.relation_ranges.specs.Rpm.Reading.{HasSigns}
 use Rattle.relation_ranges.specs.Rpm.Holds.{holds}
 use Rattle.relation_ranges.specs.Rpm.Spans.{has_release, is_open, named_in, outcome, spans_of}
 use Rattle.relation_ranges.specs.Rpm.Back.{moved}
 use Rattle.relation_ranges.specs.Laws.Compared.{compared_says}
+use Rattle.relation_ranges.specs.Laws.Comparison.{one_comparison}
 use Rattle.relation_ranges.specs.Laws.RpmOrder.{none_of, released, same_named, unreleased}
 
--- an operator is told by the sum of its signs
-abbrev sum_of : List ℕ → ℕ
-sum_of [] = 0
-sum_of (b ∷ bytes) = b + sum_of bytes
-
-abbrev operator_by : ℕ → Comparison
-operator_by n = if n == 60 then Less else (if n == 121 then LessOrEqual else (if n == 61 then Equal else (if n == 123 then GreaterOrEqual else Greater)))
-
-operator_back : (a : Comparison) → operator_by (sum_of (signs_of a)) ≡ a
-operator_back Less = refl
-operator_back LessOrEqual = refl
-operator_back Equal = refl
-operator_back GreaterOrEqual = refl
-operator_back Greater = refl
-
 pub one_operator : (signs : List ℕ) (a b : Comparison) → HasSigns a signs → HasSigns b signs → a ≡ b
-one_operator signs a b p q = sym (operator_back a) ∙ ap (λ s. operator_by (sum_of s)) (sym p ∙ q) ∙ operator_back b
+one_operator = one_comparison Single
 
 -- a relation that makes a span among the versions with a release
 has_end : (is : Bool) → (if is then made.Spans else made.NoEnd end_kind.NoRelease) ≡ made.Spans → is ≡ true

@@ -10,7 +10,8 @@ use Rattle.vx_spec.proofs.RunLaws.{one_run, past_begins, run_all, run_past}
 use Rattle.vx_text.proofs.PastLaws.{numeral_bytes}
 use Rattle.vx_order.specs.Scanning.{behind_token}
 use Rattle.vx_order.specs.Laws.Scanning.{behind_digits, behind_other, behind_word, scanned_step, token_number, token_takes_a_byte, token_word}
-use Rattle.rpm_scheme.specs.Version.{tilde, caret, tilde_rank, caret_rank, count_letter, sign_letter, sign_letters, word_letter, first_letters, letters_of}
+use Rattle.vx_spec.specs.Signs.{caret, tilde}
+use Rattle.rpm_scheme.specs.Version.{tilde_rank, caret_rank, count_letter, sign_letter, sign_letters, word_letter, first_letters, letters_of}
 use Rattle.relation_ranges.specs.Laws.RpmLetters.{snapshot}
 
 -- the letters of a text's first token, then those of what stands behind it

@@ -1,6 +1,6 @@
 -- RPM's relations are words: what is written of terms is read as these terms.
 use Rattle.std.proofs.Common.{◌≡◌, ℕ, true, false, List, refl, sym, subst}
-use Rattle.std.specs.List.{list_all, AllByRecursion}
+use Rattle.std.specs.List.{AllByRecursion}
 use Rattle.std.specs.Char.{is_ascii_digit}
 use Rattle.std.proofs.Common.{arith}
 use Rattle.std.proofs.lemmas.Bool.Decides.{nat_tests}
@@ -11,11 +11,11 @@ use Rattle.rpm_scheme.specs.Spelling.{IsVersion, Spells, is_part, is_part_byte}
 use Rattle.rpm_scheme.specs.Writing.{normal}
 use Rattle.rpm_scheme.specs.Laws.Texts.{rpm_texts}
 use Rattle.rpm_scheme.specs.Laws.Unique.{part_bytes}
-use Rattle.relation_ranges.specs.declared.comparison.Comparison.{Comparison}
-use Rattle.relation_ranges.specs.declared.comparison.Comparison.TheVariants.{Less, LessOrEqual, Equal, GreaterOrEqual, Greater}
-use Rattle.relation_ranges.specs.Comparison.{is_sign, signs_of}
-use Rattle.relation_ranges.specs.Rpm.Reading.{HasSigns, RpmRelation, Reads}
+use Rattle.relation_ranges.specs.declared.comparison.Strict.TheVariants.{Single}
+use Rattle.relation_ranges.specs.Comparison.{is_sign}
+use Rattle.relation_ranges.specs.Rpm.Reading.{HasSigns, RpmRelation, Reads, signs_of}
 use Rattle.relation_ranges.specs.Rpm.Back.{range_text}
+use Rattle.relation_ranges.specs.Laws.Comparison.{compared_table}
 use Rattle.relation_ranges.specs.Laws.Written as written
 use Rattle.relation_ranges.specs.Laws.Written.{IsWord, IsWritable, is_word_byte, some_text}
 
@@ -45,31 +45,8 @@ text_word v is = record {
   some = some_text (normal v) (rpm_texts.normal_spells v is).not_empty;
 }
 
--- ---- the signs
-
-signs_all : (o : Comparison) → list_all is_sign (signs_of o) ≡ true
-signs_all Less = refl
-signs_all LessOrEqual = refl
-signs_all Equal = refl
-signs_all GreaterOrEqual = refl
-signs_all Greater = refl
-
-signs_word : (o : Comparison) → IsWord (signs_of o)
-signs_word Less = record { bytes = refl; some = refl }
-signs_word LessOrEqual = record { bytes = refl; some = refl }
-signs_word Equal = record { bytes = refl; some = refl }
-signs_word GreaterOrEqual = record { bytes = refl; some = refl }
-signs_word Greater = record { bytes = refl; some = refl }
-
 rpm_table : IsWritable is_sign signs_of HasSigns Spells normal IsVersion
-rpm_table = record {
-  no_blank = refl;
-  signs_all = signs_all;
-  signs_word = signs_word;
-  signs_are = λ operator. refl;
-  text_word = text_word;
-  spelled = λ v is. is;
-}
+rpm_table = compared_table Single Spells normal IsVersion text_word (λ v is. is)
 
 -- one relation, of a version
 abbrev pub TermIs : List RpmRelation → Type 0

@@ -15,8 +15,6 @@ use Rattle.rpm_scheme.specs.Version as rpm_version
 use Rattle.rpm_scheme.specs.Spelling as rpm_spelling
 use Rattle.relation_ranges.specs.declared.comparison.Comparison.{Comparison}
 use Rattle.relation_ranges.specs.declared.comparison.Comparison.TheVariants.{Less, LessOrEqual, Equal, GreaterOrEqual, Greater}
-use Rattle.relation_ranges.specs.declared.deb.operators.Operator as deb_operator
-use Rattle.relation_ranges.specs.declared.deb.operators.Operator.TheVariants as deb_of
 use Rattle.relation_ranges.specs.declared.gem.operators.Operator as gem_operator
 use Rattle.relation_ranges.specs.declared.gem.operators.Operator.TheVariants as gem_of
 use Rattle.relation_ranges.specs.Comparison as comparison
@@ -51,13 +49,6 @@ compared_two mark Equal bound = omega arith
 compared_two mark GreaterOrEqual bound = omega arith
 compared_two mark Greater bound = omega arith
 
-deb_two : (mark : ℕ) (operator : deb_operator.Operator) (bound : deb_version.Fields) → length (cuts_of (deb_spans.spans_of mark operator bound)) ≤ 2
-deb_two mark deb_of.Earlier bound = omega arith
-deb_two mark deb_of.EarlierOrEqual bound = omega arith
-deb_two mark deb_of.Equal bound = omega arith
-deb_two mark deb_of.LaterOrEqual bound = omega arith
-deb_two mark deb_of.Later bound = omega arith
-
 gem_two : (mark : ℕ) (operator : gem_operator.Operator) (bound : gem_version.Fields) → length (cuts_of (gem_spans.spans_of mark operator bound)) ≤ 2
 gem_two mark (gem_of.Compares how) bound = compared_two mark how bound
 gem_two mark gem_of.NotEqual bound = omega arith
@@ -80,7 +71,7 @@ relations_are_short bar is_sign HasSigns Spells first_past outcome spans two dom
 
 pub deb_short : (domain : Domain) (text : List ℕ) (bounds : List (List (List (Span deb_version.Fields)))) → deb.Makes domain text bounds
     → (n : ℕ) × deb_sizes.HasConstructs text n × (cut_count bounds ≤ 2 * n)
-deb_short = relations_are_short (Some deb_operators.bar) comparison.is_sign deb_reading.HasSigns deb_spelling.Spells first_past deb_refusals.outcome (λ domain. deb_spans.spans_of) (λ domain. deb_two)
+deb_short = relations_are_short (Some deb_operators.bar) comparison.is_sign deb_operators.HasSigns deb_spelling.Spells first_past deb_refusals.outcome (λ domain. deb_spans.spans_of) (λ domain. compared_two)
 
 pub gem_short : (domain : Domain) (text : List ℕ) (bounds : List (List (List (Span gem_version.Fields)))) → gem.Makes domain text bounds
     → (n : ℕ) × gem_sizes.HasConstructs text n × (cut_count bounds ≤ 2 * n)

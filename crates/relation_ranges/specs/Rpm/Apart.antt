@@ -3,7 +3,8 @@
 use Rattle.std.specs.Prelude.{◌≡◌, ◌+◌, ℕ, max, false, List, [], ◌∷◌, ◌++◌, length, replicate, Option, Some, None, codes}
 use Rattle.vx_spec.specs.Numerals.{numeral_text}
 use Rattle.vx_order.specs.declared.letter.Letter.{Letter}
-use Rattle.rpm_scheme.specs.Version.{Fields, IsWithoutRelease, tilde, caret_rank, count_letter, sign_letter, tilde_rank}
+use Rattle.vx_spec.specs.Signs.{tilde}
+use Rattle.rpm_scheme.specs.Version.{Fields, IsWithoutRelease, caret_rank, count_letter, sign_letter, tilde_rank}
 use Rattle.relation_ranges.specs.declared.comparison.Comparison.{Comparison}
 use Rattle.relation_ranges.specs.Rpm.Spans.{is_open}
 

@@ -5,7 +5,7 @@ use Rattle.std.specs.Ordering.{is_lt}
 use Rattle.vx_scheme.specs.declared.domain.Domain.{Domain}
 use Rattle.vx_scheme.specs.declared.domain.Domain.TheVariants.{All, Releases}
 use Rattle.vx_scheme.specs.declared.back_fault.BackFault.{BackFault}
-use Rattle.vx_scheme.specs.declared.back_fault.BackFault.TheVariants.{NotOneInterval, PointHole, NothingInDomain}
+use Rattle.vx_scheme.specs.declared.back_fault.BackFault.TheVariants.{NothingInDomain}
 use Rattle.vx_scheme.specs.declared.span.Cut.{Cut}
 use Rattle.vx_scheme.specs.declared.span.Span.{Span}
 use Rattle.vx_scheme.specs.Cuts.{cut_cmp}
@@ -13,9 +13,9 @@ use Rattle.rpm_scheme.specs.Version.{Fields}
 use Rattle.rpm_scheme.specs.Order.{order_of}
 use Rattle.rpm_scheme.specs.Writing.{normal}
 use Rattle.relation_ranges.specs.Written as written
-use Rattle.relation_ranges.specs.Comparison.{signs_of}
-use Rattle.relation_ranges.specs.Bounds.{span_terms, is_hole, mark_of}
-use Rattle.relation_ranges.specs.Rpm.Reading.{RpmRelation}
+use Rattle.vx_range.specs.Gaps.{gap_fault}
+use Rattle.relation_ranges.specs.Rpm.Reading.{RpmRelation, signs_of}
+use Rattle.relation_ranges.specs.Bounds.{span_terms}
 use Rattle.relation_ranges.specs.Rpm.Spans.{has_release, named_in}
 
 -- the relations with a comma between each two
@@ -66,15 +66,11 @@ joined_spans (span ∷ spans) = joined_from span spans
 
 -- ---- the text
 
--- the refusal of a gap, with the mark of the cut behind it
-abbrev pub gap_fault : Option (Cut Fields) → Option (Cut Fields) → BackFault
-gap_fault upper lower = if is_hole order_of upper lower then PointHole (mark_of lower) else NotOneInterval (mark_of lower)
-
 -- One span has its text. Where none is left the domain has no version in it, and of several the first gap decides.
 abbrev pub text_of : List (Span Fields) → Result (List ℕ) BackFault
 text_of [] = Err (NothingInDomain 1)
 text_of (span ∷ []) = Ok (range_text (span_terms (λ c. c) order_of span.lower span.upper))
-text_of (span ∷ next ∷ spans) = Err (gap_fault span.upper next.lower)
+text_of (span ∷ next ∷ spans) = Err (gap_fault order_of span.upper next.lower)
 
 -- the text of spans in a domain, or the refusal
 abbrev pub back : Domain → List (Span Fields) → Result (List ℕ) BackFault

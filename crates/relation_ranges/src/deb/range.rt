@@ -7,7 +7,7 @@ ghost use Rattle.vx_scheme.specs.Cuts.{in_spans};
 ghost use Rattle.vx_range.specs.Making.{made_each};
 ghost use Rattle.deb_scheme.specs.Version.{Fields};
 ghost use Rattle.deb_scheme.specs.Order.{order_of};
-ghost use Rattle.relation_ranges.specs.declared.deb.operators.Operator.{Operator};
+ghost use Rattle.relation_ranges.specs.declared.comparison.Comparison.{Comparison};
 ghost use Rattle.relation_ranges.specs.Range.{relation_holds, relation_spans};
 ghost use Rattle.relation_ranges.specs.Deb.Reading.{DebRelation, Reads};
 ghost use Rattle.relation_ranges.specs.Deb.Holds.{holds};
@@ -41,7 +41,7 @@ impl BackForm for Deb {
 
 /// A relation holds of a version exactly where the span that it makes holds it, whatever its mark.
 pub fn deb_relation_is_its_span()
-    ensures { (operator : Operator) (bound : Fields) (mark : ℕ) (v : Fields) →
+    ensures { (operator : Comparison) (bound : Fields) (mark : ℕ) (v : Fields) →
         in_spans order_of (spans_of mark operator bound) v ≡ holds operator bound v }
 {}
 

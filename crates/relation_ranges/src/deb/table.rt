@@ -1,26 +1,39 @@
-use crate::comparison::RelationSigns;
-use crate::deb::operators::{Operator, operator_of};
+use crate::comparison::{Comparison, RelationSigns, Strict, comparison_of, push_compared};
+use crate::deb::range::DebRange;
 use crate::relations::Relations;
 use deb_scheme::{Deb, DebVersion, past_numeral};
 use std::alloc::Global;
-use vx_range::{Outcome, push_above, push_below, push_from, push_point, push_up_to};
+use vx_range::{Outcome, PlacedVersions};
 use vx_scheme::{Domain, NoMemory, Spans};
+
+impl PlacedVersions<DebRange> for Deb {
+    ghost use Rattle.vx_text.specs.Past.{first_past};
+    ghost use Rattle.deb_scheme.proofs.Bytes.{spelled_utf8};
+    ghost use Rattle.deb_scheme.proofs.PastLaws.{limits_agree};
+
+    ghost first_past = { first_past };
+
+    ghost utf8 = { spelled_utf8 };
+
+    ghost limits = { limits_agree };
+
+    /// Where the first run of digits begins that passes 2^128-1.
+    fn first_past(text: &[u8], at: usize) -> Option<usize> {
+        past_numeral(text, at)
+    }
+}
 
 impl Relations for Deb {
     ghost use Rattle.std.specs.Prelude.{Some, ⊤};
     ghost use Rattle.vx_scheme.specs.declared.domain.Domain.TheVariants as domain_of;
     ghost use Rattle.vx_range.specs.declared.making.Outcome.TheVariants as made;
-    ghost use Rattle.vx_text.specs.Past.{first_past};
-    ghost use Rattle.deb_scheme.proofs.Bytes.{spelled_utf8};
-    ghost use Rattle.deb_scheme.proofs.PastLaws.{limits_agree};
-    ghost use Rattle.relation_ranges.specs.Deb.Operators.{bar};
-    ghost use Rattle.relation_ranges.specs.Deb.Reading.{HasSigns};
+    ghost use Rattle.relation_ranges.specs.Deb.Operators.{HasSigns, bar};
     ghost use Rattle.relation_ranges.specs.Deb.Spans.{spans_of};
     ghost use Rattle.relation_ranges.specs.Deb.Holds.{holds};
     ghost use Rattle.relation_ranges.specs.Deb.Refusals.{outcome};
     ghost use Rattle.relation_ranges.specs.Laws.DebTable.{one_operator, agrees, deb_ends};
 
-    type Operator = Operator;
+    type Operator = Comparison;
 
     type Signs = RelationSigns;
 
@@ -31,8 +44,6 @@ impl Relations for Deb {
     ghost bar = { Some bar };
 
     ghost HasSigns = { HasSigns };
-
-    ghost first_past = { first_past };
 
     ghost spans = { λ domain. spans_of };
 
@@ -46,10 +57,6 @@ impl Relations for Deb {
     ghost Tells = { λ _ _ _ _ _. ⊥ };
 
     ghost one_operator = { one_operator };
-
-    ghost utf8 = { spelled_utf8 };
-
-    ghost limits = { limits_agree };
 
     ghost agrees = { agrees };
 
@@ -72,31 +79,20 @@ impl Relations for Deb {
     }
 
     /// The operator that is written so.
-    fn operator(signs: &[u8]) -> Option<Operator> {
-        operator_of(signs)
-    }
-
-    /// Where the first run of digits begins that passes 2^128-1.
-    fn first_past(text: &[u8], at: usize) -> Option<usize> {
-        past_numeral(text, at)
+    fn operator(signs: &[u8]) -> Option<Comparison> {
+        comparison_of(Strict::Doubled, signs)
     }
 
     /// Appends the span of the operator, the same in each domain.
     fn push_spans(
         alloc: Global,
-        operator: Operator,
+        operator: Comparison,
         version: DebVersion,
         _domain: Domain,
         marks: &mut u64,
         out: &mut Spans<DebVersion>,
     ) -> Result<Outcome, NoMemory> {
-        match operator {
-            Operator::Earlier => push_below(marks, version, out)?,
-            Operator::EarlierOrEqual => push_up_to(marks, version, out)?,
-            Operator::Equal => push_point::<Deb>(alloc, marks, version, out)?,
-            Operator::LaterOrEqual => push_from(marks, version, out)?,
-            Operator::Later => push_above(marks, version, out)?,
-        }
+        push_compared::<Deb>(alloc, operator, version, marks, out)?;
         Ok(Outcome::Spans)
     }
 }

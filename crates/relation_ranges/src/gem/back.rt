@@ -5,12 +5,14 @@ ghost use Rattle.gem_scheme.specs.Order.{order_of};
 ghost use Rattle.gem_scheme.specs.Writing.{normal};
 ghost use Rattle.relation_ranges.specs.declared.gem.operators.Operator.TheVariants.{Compares, NotEqual};
 ghost use Rattle.relation_ranges.specs.Written.{term_text};
-ghost use Rattle.relation_ranges.specs.Bounds.{bound_terms, is_hole, mark_of};
+ghost use Rattle.vx_range.specs.Gaps.{is_hole, mark_of};
+ghost use Rattle.relation_ranges.specs.Bounds.{bound_terms};
 ghost use Rattle.relation_ranges.specs.Gem.Operators.{signs_of};
 ghost use Rattle.relation_ranges.specs.Gem.Back.{back, back_terms, first_gap, hole_terms, range_text};
 ghost use Rattle.relation_ranges.specs.Steps.Terms.{appended, comma, is_any};
 
-use crate::bounds::{push_bounds, push_relation, push_span};
+use crate::bounds::{push_bounds, push_comma, push_relation, push_span};
+use crate::comparison::Strict;
 use gem_scheme::{Gem, GemVersion};
 use std::alloc::Global;
 use vx_range::is_point;
@@ -66,9 +68,9 @@ fn push_all(out: &mut Text, spans: &[Span<GemVersion>]) -> Result<(), NoMemory>
 {
     match spans {
         [] => Ok(()),
-        [single] => push_span::<Gem>(out, &single.lower, &single.upper),
+        [single] => push_span::<Gem>(out, Strict::Single, &single.lower, &single.upper),
         [first, .., last] => {
-            push_bounds::<Gem>(out, &first.lower, &last.upper)?;
+            push_bounds::<Gem>(out, Strict::Single, &first.lower, &last.upper)?;
             push_holes(out, has_bound(&first.lower, &last.upper), spans)
         }
     }
@@ -100,8 +102,6 @@ fn push_hole(out: &mut Text, some: bool, upper: &Cut<GemVersion>) -> Result<(), 
     ensures { OnOk result (out.new ≡ (out.old ++ comma some)
         ++ term_text signs_of normal (record { operator = NotEqual; version = upper.now.version } ∷ [])) }
 {
-    if some {
-        out.push_str(", ")?;
-    }
+    push_comma(out, some)?;
     push_relation::<Gem>(out, "!=", &upper.version)
 }

@@ -1,7 +1,7 @@
 ghost use Rattle.std.specs.Prelude.{MatchOption};
 ghost use Rattle.relation_ranges.specs.Gem.Operators.{HasSigns};
 
-use crate::comparison::{Comparison, comparison_of};
+use crate::comparison::{Comparison, Strict, comparison_of};
 use vx_text::ByteClass;
 
 /// An operator of RubyGems' requirements.
@@ -38,7 +38,7 @@ pub(crate) fn operator_of(signs: &[u8]) -> Option<Operator>
         b"" => Some(Operator::Compares(Comparison::Equal)),
         b"!=" => Some(Operator::NotEqual),
         b"~>" => Some(Operator::Twiddle),
-        _ => match comparison_of(signs) {
+        _ => match comparison_of(Strict::Single, signs) {
             Some(comparison) => Some(Operator::Compares(comparison)),
             None => None,
         },

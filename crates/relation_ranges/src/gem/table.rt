@@ -6,19 +6,34 @@ ghost use Rattle.relation_ranges.specs.Gem.Spans.{outcome, spans_of};
 
 use crate::comparison::push_compared;
 use crate::gem::operators::{Operator, RequirementSigns, operator_of};
+use crate::gem::range::GemRange;
 use crate::relations::Relations;
 use gem_scheme::{Gem, GemVersion, bump, past_numeral};
 use std::alloc::Global;
-use vx_range::{Outcome, push_above, push_below, push_between};
+use vx_range::{Outcome, PlacedVersions, push_above, push_below, push_between};
 use vx_scheme::{Domain, EndKind, NoMemory, Scheme, Spans, StepFault};
+
+impl PlacedVersions<GemRange> for Gem {
+    ghost use Rattle.vx_text.specs.Past.{first_past};
+    ghost use Rattle.gem_scheme.proofs.Bytes.{spelled_utf8};
+    ghost use Rattle.gem_scheme.proofs.PastLaws.{limits_agree};
+
+    ghost first_past = { first_past };
+
+    ghost utf8 = { spelled_utf8 };
+
+    ghost limits = { limits_agree };
+
+    /// Where the first run of digits begins that passes 2^128-1.
+    fn first_past(text: &[u8], at: usize) -> Option<usize> {
+        past_numeral(text, at)
+    }
+}
 
 impl Relations for Gem {
     ghost use Rattle.std.specs.Prelude.{None, ⊤};
     ghost use Rattle.vx_scheme.specs.declared.domain.Domain.TheVariants as domain_of;
     ghost use Rattle.vx_range.specs.declared.making.Outcome.TheVariants as made;
-    ghost use Rattle.vx_text.specs.Past.{first_past};
-    ghost use Rattle.gem_scheme.proofs.Bytes.{spelled_utf8};
-    ghost use Rattle.gem_scheme.proofs.PastLaws.{limits_agree};
     ghost use Rattle.relation_ranges.specs.Gem.Operators.{HasSigns};
     ghost use Rattle.relation_ranges.specs.Gem.Spans.{spans_of, outcome};
     ghost use Rattle.relation_ranges.specs.Gem.Holds.{holds};
@@ -38,8 +53,6 @@ impl Relations for Gem {
 
     ghost HasSigns = { HasSigns };
 
-    ghost first_past = { first_past };
-
     ghost spans = { λ domain. spans_of };
 
     ghost outcome = { outcome };
@@ -51,10 +64,6 @@ impl Relations for Gem {
     ghost Tells = { Tells };
 
     ghost one_operator = { one_operator };
-
-    ghost utf8 = { spelled_utf8 };
-
-    ghost limits = { limits_agree };
 
     ghost agrees = { agrees };
 
@@ -79,11 +88,6 @@ impl Relations for Gem {
     /// The operator that is written so.
     fn operator(signs: &[u8]) -> Option<Operator> {
         operator_of(signs)
-    }
-
-    /// Where the first run of digits begins that passes 2^128-1.
-    fn first_past(text: &[u8], at: usize) -> Option<usize> {
-        past_numeral(text, at)
     }
 
     /// Appends the spans of the operator. `~>` has no end in the domain of all, and among releases none where a number

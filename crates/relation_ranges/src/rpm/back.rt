@@ -5,12 +5,13 @@ ghost use Rattle.vx_scheme.specs.Cuts.{cut_cmp};
 ghost use Rattle.vx_scheme.specs.Native.{BackRefused};
 ghost use Rattle.rpm_scheme.specs.Version.{Fields};
 ghost use Rattle.rpm_scheme.specs.Order.{order_of};
-ghost use Rattle.relation_ranges.specs.Bounds.{is_hole, mark_of};
+ghost use Rattle.vx_range.specs.Gaps.{gap_fault, is_hole, mark_of};
 ghost use Rattle.relation_ranges.specs.Rpm.Spans.{named_in};
-ghost use Rattle.relation_ranges.specs.Rpm.Back.{back, gap_fault, joined_spans, kept, meets, moved, moved_bound, moved_span, text_of};
+ghost use Rattle.relation_ranges.specs.Rpm.Back.{back, joined_spans, kept, meets, moved, moved_bound, moved_span, text_of};
 ghost use Rattle.relation_ranges.specs.Steps.RpmBack.{bound_of, cut_of, joined_with, span_of};
 
 use crate::bounds::push_span;
+use crate::comparison::Strict;
 use crate::rpm::table::{has_release, named_in};
 use rpm_scheme::{Rpm, RpmVersion, compare_without_release};
 use std::alloc::Global;
@@ -45,7 +46,7 @@ pub(crate) fn text_of(
     let lower = cut_of(alloc, interval.lower, domain)?;
     let upper = cut_of(alloc, interval.upper, domain)?;
     let mut text = Text::new(alloc);
-    push_span::<Rpm>(&mut text, &lower, &upper)?;
+    push_span::<Rpm>(&mut text, Strict::Single, &lower, &upper)?;
     Ok(text)
 }
 
@@ -93,7 +94,7 @@ fn joined<'a>(
     ensures ok { IfOk result (λ both. (meets (bound_of domain before.entry.upper) (bound_of domain next.entry.lower) ≡ true)
         × (span_of domain both ≡ record { lower = bound_of domain before.entry.lower; upper = bound_of domain next.entry.upper })) }
     ensures err { IfErr result (λ fault. (meets (bound_of domain before.entry.upper) (bound_of domain next.entry.lower) ≡ false)
-        × (fault ≡ gap_fault (bound_of domain before.entry.upper) (bound_of domain next.entry.lower))) }
+        × (fault ≡ gap_fault order_of (bound_of domain before.entry.upper) (bound_of domain next.entry.lower))) }
 {
     if meets(before.upper, next.lower, domain) {
         Ok(Interval {
@@ -106,7 +107,7 @@ fn joined<'a>(
 }
 
 fn gap_fault(upper: Option<Edge<'_>>, lower: Option<Edge<'_>>, domain: Domain) -> BackFault
-    ensures { result ≡ gap_fault (bound_of domain upper.entry) (bound_of domain lower.entry) }
+    ensures { result ≡ gap_fault order_of (bound_of domain upper.entry) (bound_of domain lower.entry) }
 {
     if is_hole(upper, lower, domain) {
         BackFault::PointHole(mark_of(lower, domain))

@@ -3,20 +3,35 @@ ghost use Rattle.vx_scheme.specs.declared.range_fault.EndKind.TheVariants as end
 ghost use Rattle.vx_range.specs.declared.making.Outcome.TheVariants as made;
 ghost use Rattle.relation_ranges.specs.Rpm.Spans.{has_release, is_open, named_in, outcome};
 
-use crate::comparison::{Comparison, RelationSigns, comparison_of, push_compared};
+use crate::comparison::{Comparison, RelationSigns, Strict, comparison_of, push_compared};
 use crate::relations::Relations;
+use crate::rpm::range::RpmRange;
 use rpm_scheme::{Rpm, RpmVersion, past_numeral, without_release};
 use std::alloc::Global;
-use vx_range::Outcome;
+use vx_range::{Outcome, PlacedVersions};
 use vx_scheme::{Domain, EndKind, NoMemory, Spans};
+
+impl PlacedVersions<RpmRange> for Rpm {
+    ghost use Rattle.vx_text.specs.Past.{first_past};
+    ghost use Rattle.rpm_scheme.proofs.Bytes.{spelled_utf8};
+    ghost use Rattle.rpm_scheme.proofs.PastLaws.{limits_agree};
+
+    ghost first_past = { first_past };
+
+    ghost utf8 = { spelled_utf8 };
+
+    ghost limits = { limits_agree };
+
+    /// Where the first run of digits begins that passes 2^128-1.
+    fn first_past(text: &[u8], at: usize) -> Option<usize> {
+        past_numeral(text, at)
+    }
+}
 
 impl Relations for Rpm {
     ghost use Rattle.std.specs.Prelude.{None, ⊤};
     ghost use Rattle.vx_scheme.specs.declared.domain.Domain.TheVariants as domain_of;
     ghost use Rattle.vx_range.specs.declared.making.Outcome.TheVariants as made;
-    ghost use Rattle.vx_text.specs.Past.{first_past};
-    ghost use Rattle.rpm_scheme.proofs.Bytes.{spelled_utf8};
-    ghost use Rattle.rpm_scheme.proofs.PastLaws.{limits_agree};
     ghost use Rattle.relation_ranges.specs.Rpm.Reading.{HasSigns};
     ghost use Rattle.relation_ranges.specs.Rpm.Spans.{spans_of, outcome};
     ghost use Rattle.relation_ranges.specs.Rpm.Holds.{holds};
@@ -36,8 +51,6 @@ impl Relations for Rpm {
 
     ghost HasSigns = { HasSigns };
 
-    ghost first_past = { first_past };
-
     ghost spans = { spans_of };
 
     ghost outcome = { outcome };
@@ -49,10 +62,6 @@ impl Relations for Rpm {
     ghost Tells = { Tells };
 
     ghost one_operator = { one_operator };
-
-    ghost utf8 = { spelled_utf8 };
-
-    ghost limits = { limits_agree };
 
     ghost agrees = { agrees };
 
@@ -77,12 +86,7 @@ impl Relations for Rpm {
 
     /// The operator that is written so.
     fn operator(signs: &[u8]) -> Option<Comparison> {
-        comparison_of(signs)
-    }
-
-    /// Where the first run of digits begins that passes 2^128-1.
-    fn first_past(text: &[u8], at: usize) -> Option<usize> {
-        past_numeral(text, at)
+        comparison_of(Strict::Single, signs)
     }
 
     /// Appends the span of the operator, among releases at the version without its release. In the domain of all `=`, `<=`

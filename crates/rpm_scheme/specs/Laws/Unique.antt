@@ -1,13 +1,13 @@
--- A text is made of parts that have their form in one way, so that no text spells two versions.
-use Rattle.std.proofs.Common.{◌≡◌, ◌≢◌, ℕ, List, [], ◌∷◌, true, false, refl, sym, ap, ◌∙◌}
+-- The bytes of parts hold no signs of others, so that no text spells two versions.
+use Rattle.std.proofs.Common.{◌≡◌, ◌≢◌, ℕ, List, [], ◌∷◌, true, false, refl}
 use Rattle.std.specs.List.{list_all}
 use Rattle.std.specs.Char.{is_ascii_alphanumeric}
 use Rattle.std.proofs.lemmas.Bool.{and_parts}
 use Rattle.vx_spec.specs.Marks.{Lacks}
 use Rattle.vx_spec.specs.Runs.{begins}
 use Rattle.vx_spec.proofs.EndLaws.{lacks_by}
-use Rattle.vx_text.specs.EpochParts.{IsMadeOf, Parts, colon, hyphen}
-use Rattle.vx_text.proofs.EpochLaws.{one_made}
+use Rattle.vx_spec.specs.Signs.{colon, hyphen}
+use Rattle.vx_text.proofs.EpochVersionLaws as by_parts
 use Rattle.rpm_scheme.specs.Spelling.{Spells, is_part, is_part_byte, version_of}
 use Rattle.rpm_scheme.specs.Version.{Fields}
 
@@ -27,15 +27,6 @@ version_lacks part is = part_lacks colon refl part is
 pub release_lacks : (part : List ℕ) → is_part part ≡ true → Lacks colon part × Lacks hyphen part
 release_lacks part is = (part_lacks colon refl part is, part_lacks hyphen refl part is)
 
--- a text that spells a version is made of its parts
-pub spelled_made : {text : List ℕ} {v : Fields} → (s : Spells text v) → IsMadeOf is_part is_part text s.parts
-spelled_made s = record { joined = s.joined; forms = s.form }
-
--- and a text that is made of parts spells what they stand for
-pub made_spells : {text : List ℕ} {p : Parts} → IsMadeOf is_part is_part text p → Spells text (version_of text p)
-made_spells {text} {p} made = record { parts = p; joined = made.joined; form = made.forms; values = refl }
-
 -- no text spells two versions
 pub one_reading : (text : List ℕ) (v w : Fields) → Spells text v → Spells text w → v ≡ w
-one_reading text v w s t =
-    s.values ∙ ap (version_of text) (one_made is_part is_part version_lacks release_lacks (spelled_made s) (spelled_made t)) ∙ sym t.values
+one_reading = by_parts.one_reading is_part is_part version_of version_lacks release_lacks

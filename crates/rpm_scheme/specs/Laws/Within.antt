@@ -2,7 +2,9 @@
 use Rattle.std.proofs.Common.{eqb, ℕ, List, inl, inr, arith}
 use Rattle.std.specs.List.{AllByRecursion}
 use Rattle.std.proofs.lemmas.Bool.{cases_Bool}
-use Rattle.rpm_scheme.specs.Version.{LetterIsWithin, caret, sign_letters, tilde, word_letter}
+use Rattle.vx_spec.specs.Signs.{caret, tilde}
+use Rattle.vx_order.specs.Letters.{LetterIsWithin}
+use Rattle.rpm_scheme.specs.Version.{sign_letters, word_letter}
 
 pub word_within : (letters : List ℕ) → LetterIsWithin (word_letter letters)
 word_within letters = omega arith

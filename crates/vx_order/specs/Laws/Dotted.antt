@@ -1,13 +1,15 @@
 -- Where a text of dotted parts behind their marks is cut is known from the bytes that its parts lack.
-use Rattle.std.proofs.Common.{◌≡◌, ◌≢◌, ◌<◌, ℕ, List, [], ◌∷◌, ◌++◌, true, false, length, refl, sym, ap, ◌∙◌, Option, Some, None, arith, append-nil}
+use Rattle.std.proofs.Common.{◌≡◌, ◌≢◌, ◌<◌, ℕ, List, [], ◌∷◌, ◌++◌, Bool, true, false, length, refl, sym, ap, ◌∙◌, Option, Some, None, arith, append-nil}
 use Rattle.std.specs.List.{AllByRecursion, join_with_byte, list_all}
 use Rattle.std.proofs.lemmas.Bool.{and_parts}
 use Rattle.std.proofs.lemmas.List.Splits.{join_with_byte-slice_split}
 use Rattle.vx_spec.specs.Marks.{IsCut, Lacks, marked}
+use Rattle.vx_spec.specs.Runs.{is_made_of}
 use Rattle.vx_spec.proofs.MarkLaws.{one_cut}
 use Rattle.vx_spec.proofs.EndLaws.{lacks_append, lacks_by}
 use Rattle.vx_text.proofs.Joins.{join_lacks, parts_behind, split_cut, split_join, split_some}
-use Rattle.vx_order.specs.Dotted.{dot, dotted, hyphen, pieces, plus, tail}
+use Rattle.vx_spec.specs.Signs.{dot, hyphen, plus}
+use Rattle.vx_order.specs.Dotted.{dotted, pieces, tail}
 use Rattle.vx_order.specs.Identifiers.{is_identifier, is_identifier_byte}
 use Rattle.vx_order.specs.Cuts.{IsCutApart}
 use Rattle.vx_order.specs.Steps.Apart.{is_core_byte}
@@ -21,15 +23,22 @@ dot_not_plus e = cc e
 hyphen_not_plus : hyphen ≢ plus
 hyphen_not_plus e = cc e
 
-pub identifier_bytes : (t : List ℕ) → is_identifier t ≡ true → list_all is_identifier_byte t ≡ true
-identifier_bytes t is = (and_parts _ _ is).1
+-- texts made of a class of bytes lack what is no byte of it
+module _ (test : ℕ → Bool) where
+  pub made_bytes : (t : List ℕ) → is_made_of test t ≡ true → list_all test t ≡ true
+  made_bytes t is = (and_parts _ _ is).1
 
--- identifiers lack what is no byte of theirs
+  pub made_lacks : (c : ℕ) → test c ≡ false → (t : List ℕ) → is_made_of test t ≡ true → Lacks c t
+  made_lacks c fails t is = lacks_by test c fails t (made_bytes t is)
+
+  pub all_made_lack : (c : ℕ) → test c ≡ false → (xs : List (List ℕ)) → list_all (is_made_of test) xs ≡ true → AllByRecursion (Lacks c) xs
+  all_made_lack c fails [] all = tt
+  all_made_lack c fails (x ∷ xs) all =
+      let a = and_parts (is_made_of test x) (list_all (is_made_of test) xs) all in
+      (made_lacks c fails x a.0, all_made_lack c fails xs a.1)
+
 pub identifiers_lack : (c : ℕ) → is_identifier_byte c ≡ false → (xs : List (List ℕ)) → list_all is_identifier xs ≡ true → AllByRecursion (Lacks c) xs
-identifiers_lack c fails [] all = tt
-identifiers_lack c fails (x ∷ xs) all =
-    let a = and_parts (is_identifier x) (list_all is_identifier xs) all in
-    (lacks_by is_identifier_byte c fails x (identifier_bytes x a.0), identifiers_lack c fails xs a.1)
+identifiers_lack = all_made_lack is_identifier_byte
 
 -- ---- a part as the program holds it
 
@@ -45,7 +54,7 @@ pub pieces_together : (xs : List (List ℕ)) → AllByRecursion (Lacks dot) xs �
 pieces_together [] h = refl
 pieces_together (x ∷ xs) h = split_join dot x xs h
 
-tail_lacks : (c mark : ℕ) (xs : List (List ℕ)) → mark ≢ c → Lacks c (join_with_byte dot xs) → Lacks c (tail mark xs)
+pub tail_lacks : (c mark : ℕ) (xs : List (List ℕ)) → mark ≢ c → Lacks c (join_with_byte dot xs) → Lacks c (tail mark xs)
 tail_lacks c mark [] other h = tt
 tail_lacks c mark (x ∷ xs) other h = (other, h)
 

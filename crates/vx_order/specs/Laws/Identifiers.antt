@@ -1,17 +1,19 @@
 -- What identifiers' texts stand for, and that what an identifier is written as stands for it again.
-use Rattle.std.proofs.Common.{◌≡◌, ◌<◌, ℕ, List, [], ◌∷◌, map, true, not, refl, inl, inr, arith}
+use Rattle.std.proofs.Common.{◌≡◌, ◌<◌, ℕ, List, [], ◌∷◌, map, Bool, true, not, refl, inl, inr, arith}
 use Rattle.std.specs.List.{AllByRecursion, list_all}
 use Rattle.std.specs.Char.{is_ascii_digit}
 use Rattle.std.proofs.lemmas.Bool.{cases_Bool, and_parts, and_from, not-true}
 use Rattle.std.proofs.lemmas.Bool.Decides.{nat_tests}
 use Rattle.vx_spec.specs.Numerals.{is_numeral, numeral_text}
+use Rattle.vx_spec.specs.Runs.{is_made_of}
 use Rattle.vx_spec.proofs.NumeralLaws.{numeral_text_is, value-numeral_text}
 use Rattle.vx_spec.proofs.TextLaws.{each_by_test, each_joined, each_part}
 use Rattle.vx_scheme.specs.declared.ident.Ident.{Ident}
 use Rattle.vx_scheme.specs.declared.ident.Ident.TheVariants.{Number, Word}
-use Rattle.vx_order.specs.Dotted.{dot, tail}
+use Rattle.vx_spec.specs.Signs.{dot}
+use Rattle.vx_order.specs.Dotted.{tail}
 use Rattle.vx_order.specs.Identifiers.{identifier_of, identifier_text, is_ident, is_identifier, is_identifier_byte}
-use Rattle.vx_order.specs.Laws.Dotted.{identifier_bytes}
+use Rattle.vx_order.specs.Laws.Dotted.{made_bytes}
 
 digit_byte : (b : ℕ) → is_ascii_digit b ≡ true → is_identifier_byte b ≡ true
 digit_byte b d = rw d refl
@@ -58,13 +60,14 @@ IsAsciiByte b = b < 128
 identifier_byte_ascii : (b : ℕ) → is_identifier_byte b ≡ true → b < 128
 identifier_byte_ascii b is = grind (arith, nat_tests)
 
-identifier_ascii : (text : List ℕ) → is_identifier text ≡ true → AllByRecursion IsAsciiByte text
-identifier_ascii text is = each_by_test IsAsciiByte is_identifier_byte text identifier_byte_ascii (identifier_bytes text is)
+-- texts made of a class of ASCII bytes
+pub made_ascii : (test : ℕ → Bool) → ((b : ℕ) → test b ≡ true → b < 128) → (text : List ℕ) → is_made_of test text ≡ true → AllByRecursion IsAsciiByte text
+made_ascii test ascii text is = each_by_test IsAsciiByte test text ascii (made_bytes test text is)
 
-tail_ascii : (mark : ℕ) → mark < 128 → (xs : List (List ℕ)) → AllByRecursion (AllByRecursion IsAsciiByte) xs → AllByRecursion IsAsciiByte (tail mark xs)
+pub tail_ascii : (mark : ℕ) → mark < 128 → (xs : List (List ℕ)) → AllByRecursion (AllByRecursion IsAsciiByte) xs → AllByRecursion IsAsciiByte (tail mark xs)
 tail_ascii mark small [] all = tt
 tail_ascii mark small (x ∷ xs) all = (small, each_joined IsAsciiByte dot (omega arith) (x ∷ xs) all)
 
 -- each byte of identifiers behind their mark is ASCII
 pub identifiers_ascii : (mark : ℕ) → mark < 128 → (xs : List (List ℕ)) → list_all is_identifier xs ≡ true → AllByRecursion IsAsciiByte (tail mark xs)
-identifiers_ascii mark small xs all = tail_ascii mark small xs (each_part IsAsciiByte is_identifier xs identifier_ascii all)
+identifiers_ascii mark small xs all = tail_ascii mark small xs (each_part IsAsciiByte is_identifier xs (made_ascii is_identifier_byte identifier_byte_ascii) all)

@@ -6,7 +6,7 @@ use Rattle.std.specs.declared.cmp.Ordering.{Ordering}
 use Rattle.std.specs.declared.cmp.Ordering.TheVariants as ordering
 use Rattle.std.proofs.Math.Bool.{or-false, and-true}
 use Rattle.vx_scheme.specs.Cuts.{stands_below, in_spans}
-use Rattle.vx_range.specs.Spans.{point, from, above, below, up_to, between}
+use Rattle.vx_range.specs.Spans.{point, from, above, below, up_to, between, closed}
 
 -- cuts, against how a version compares
 before_is : (o : Ordering) → stands_below (ordering_reverse o) false ≡ is_ge o
@@ -66,3 +66,6 @@ module _ {V : Type 0} (order : V → V → Ordering) (laws : IsTotalOrder order)
 
   pub between_says : (mark : ℕ) (bound end v : V) → in_spans order (between mark bound end) v ≡ (is_ge (order v bound) && is_lt (order v end))
   between_says mark bound end v = or-false _ ∙ (λ i. over_before bound v i && under_before end v i)
+
+  pub closed_says : (mark : ℕ) (bound end v : V) → in_spans order (closed mark bound end) v ≡ (is_ge (order v bound) && is_le (order v end))
+  closed_says mark bound end v = or-false _ ∙ (λ i. over_before bound v i && under_after end v i)

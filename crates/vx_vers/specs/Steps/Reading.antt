@@ -11,7 +11,8 @@ use Rattle.vx_vers.specs.declared.constraints.Comparator.{Comparator}
 use Rattle.vx_vers.specs.declared.constraints.Constraint.{Constraint}
 use Rattle.vx_vers.specs.declared.fault.VersFault.{VersFault}
 use Rattle.vx_vers.specs.declared.fault.VersFault.TheVariants as fault_of
-use Rattle.vx_vers.specs.Grammar.{SpellsSolid, IsStarAlone, IsListOf, SpellEach, SpellsConstraint, EachWithin, kept_parts}
+use Rattle.vx_text.specs.Pieces.{kept_parts}
+use Rattle.vx_vers.specs.Grammar.{SpellsSolid, IsStarAlone, IsListOf, SpellEach, SpellsConstraint, EachWithin}
 use Rattle.vx_vers.specs.Refusals.{RefusesSolid, RefusesWritten, RefusesPart, numbered_texts}
 
 -- the byte is no blank, '%' or '*'; '%' is 37, and '*' 42

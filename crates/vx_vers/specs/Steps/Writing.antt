@@ -1,9 +1,5 @@
 -- What the steps of writing leave.
-use Rattle.std.specs.Prelude.{◌≡◌, ◌==◌, ◌++◌, ℕ, List, [], codes, if◌then◌else◌}
-
--- a bar before each constraint but the first
-abbrev pub bar_before : ℕ → List ℕ
-bar_before i = if i == 0 then [] else codes "|"
+use Rattle.std.specs.Prelude.{◌≡◌, ◌++◌, ℕ, List}
 
 -- the new text is the old one, and more
 abbrev pub Extends : List ℕ → List ℕ → Type 0

@@ -3,7 +3,7 @@ use Rattle.std.proofs.lemmas.Result.{err_from_is_err_and}
 use Rattle.std.specs.List.{AllByRecursion}
 use Rattle.vx_order.specs.declared.letter.Letter.{Letter}
 use Rattle.vx_scheme.proofs.GivingLaws.{part_faults}
-use Rattle.maven_scheme.specs.Version.{LetterIsWithin}
+use Rattle.vx_order.specs.Letters.{LetterIsWithin}
 use Rattle.maven_scheme.specs.Tokens.{Token, behind_next, front_token, next_token, tokens_behind}
 use Rattle.maven_scheme.specs.Letters.{without_nulls, letter_of, letters_of}
 use Rattle.maven_scheme.specs.Steps.Nulls.{with_letter}

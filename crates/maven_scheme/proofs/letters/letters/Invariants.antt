@@ -1,7 +1,7 @@
 -- The letters so far, with those of the tokens that are left, count as those of the text.
 use Rattle.std.proofs.Common.{◌≡◌, ◌++◌, length, map, true}
 use Rattle.std.specs.List.{AllByRecursion}
-use Rattle.maven_scheme.specs.Version.{LetterIsWithin}
+use Rattle.vx_order.specs.Letters.{LetterIsWithin}
 use Rattle.maven_scheme.specs.Tokens.{tokens_behind}
 use Rattle.maven_scheme.specs.Letters.{without_nulls, letter_of, letters_of}
 use Rattle.maven_scheme.specs.Steps.Nulls.{is_tidy}

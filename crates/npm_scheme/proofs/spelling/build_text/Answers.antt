@@ -1,5 +1,5 @@
 use Rattle.std.proofs.lemmas.List.Splits.{join_with_byte-slice_split}
-use Rattle.vx_order.specs.Dotted.{dot}
+use Rattle.vx_spec.specs.Signs.{dot}
 use Rattle.npm_scheme.proofs.spelling.build_text.Goals as goal
 
 pub returns-in-Some : goal.returns-in-Some

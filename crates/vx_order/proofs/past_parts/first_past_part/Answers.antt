@@ -1,6 +1,6 @@
 use Rattle.std.proofs.Common.{sym, ◌∙◌, arith}
 use Rattle.vx_spec.proofs.EndLaws.{cut_length}
-use Rattle.vx_order.specs.Dotted.{dot}
+use Rattle.vx_spec.specs.Signs.{dot}
 use Rattle.vx_order.proofs.PastPartLaws.{cut_here, cut_next, cut_last}
 use Rattle.vx_order.proofs.past_parts.first_past_part.Goals as goal
 

@@ -1,6 +1,6 @@
 use Rattle.std.proofs.Common.{◌≡◌, ◌++◌, map, take}
 use Rattle.std.specs.List.{join_with_byte}
-use Rattle.vx_order.specs.Dotted.{dot}
+use Rattle.vx_spec.specs.Signs.{dot}
 use Rattle.vx_order.specs.Identifiers.{identifier_text}
 use Rattle.vx_order.proofs.writing.push_dotted.Given as goal
 

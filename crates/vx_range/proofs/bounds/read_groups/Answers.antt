@@ -2,11 +2,8 @@
 use Rattle.std.proofs.Common.{refl}
 use Rattle.std.specs.List.{AllByRecursion}
 use Rattle.std.proofs.lemmas.Result.{err_from_is_err_and}
-use Rattle.vx_spec.specs.Each.{AreEach}
-use Rattle.vx_spec.specs.Firsts.{IsFirst}
-use Rattle.vx_range.specs.Pieces.{seen_all, IsInPlace}
-use Rattle.vx_range.specs.Reading.{IsNoConstruct, IsPastNumeral}
-use Rattle.vx_range.specs.Making.{IsEndless, IsTooHigh}
+use Rattle.vx_range.specs.Pieces.{all_as_written, IsInPlace}
+use Rattle.vx_range.specs.Reading.{IsNoConstruct}
 use Rattle.vx_range.proofs.FoundLaws.{none_found, each_got, next_found, all_found, as_item, group_stops_at}
 use Rattle.vx_range.proofs.MadeLaws.{groups_step}
 use Rattle.vx_range.proofs.bounds.read_groups.Goals as goal
@@ -15,25 +12,16 @@ pub loop-i-init : goal.loop-i-init
 loop-i-init g c = none_found _ _ _ _ _ _ _ (c.in_ok-shapes.ensures, refl)
 
 pub read_group-requires : goal.read_group-requires
-read_group-requires g c = each_got (AllByRecursion IsInPlace) seen_all c.args.groups.now c.loop-i.i c.get.result.now c.get.ensures c.requires
+read_group-requires g c = each_got (AllByRecursion IsInPlace) all_as_written c.args.groups.now c.loop-i.i c.get.result.now c.get.ensures c.requires
 
 pub returns-in_err-shape-clause-err : goal.returns-in_err-shape-clause-err
 returns-in_err-shape-clause-err g c =
-    let reads = g.L.Language.ReadsAs in
-    let made = g.L.Making.outcome c.args.domain in
     let p = err_from_is_err_and c.from_residual-in_err-shape.result c.from_residual-in_err-shape.ensures.1 in
-    rw (p.1, p.2) (λ some. group_stops_at (IsNoConstruct reads) (IsPastNumeral g.L.Language.IsPast) (IsEndless reads made) (IsTooHigh reads made) reads seen_all c.args.groups.now c.loop-i.i c.get.result.now c.get.ensures
-    _ _ _ c.loop-i.invariant _ (c.in_err-shape.ensures.err some))
+    rw (p.1, p.2) (λ some. group_stops_at (IsNoConstruct g.L.Language.ReadsAs) _ _ _ _ all_as_written c.args.groups.now c.loop-i.i c.get.result.now c.get.ensures _ _ _ c.loop-i.invariant _ (c.in_err-shape.ensures.err some))
 
 pub loop-i-preserved : goal.loop-i-preserved
 loop-i-preserved g c =
-    let reads = g.L.Language.ReadsAs in
-    let made = g.L.Making.outcome c.args.domain in
-    next_found (IsFirst (IsNoConstruct reads)) (IsFirst (IsPastNumeral g.L.Language.IsPast)) (IsFirst (IsEndless reads made)) (IsFirst (IsTooHigh reads made)) (AreEach reads) seen_all c.args.groups.now c.loop-i.i c.get.result.now c.get.ensures
-    _ _ _ _ _ _ c.loop-i.invariant (as_item (IsNoConstruct reads) (IsPastNumeral g.L.Language.IsPast) (IsEndless reads made) (IsTooHigh reads made) reads _ _ _ _ c.in_ok-shape.ensures.ok) (groups_step (g.L.Making.spans c.args.domain) g.S.Shape.together _ _ _ _ _ _ c.in_ok-push.ensures.ok)
+    next_found _ _ _ _ _ all_as_written c.args.groups.now c.loop-i.i c.get.result.now c.get.ensures _ _ _ _ _ _ c.loop-i.invariant (as_item _ _ _ _ _ _ _ _ _ c.in_ok-shape.ensures.ok) (groups_step (g.L.Making.spans c.args.domain) g.S.Shape.together _ _ _ _ _ _ c.in_ok-push.ensures.ok)
 
 pub returns-clause-ok : goal.returns-clause-ok
-returns-clause-ok g c =
-    let reads = g.L.Language.ReadsAs in
-    let made = g.L.Making.outcome c.args.domain in
-    all_found (IsFirst (IsNoConstruct reads)) (IsFirst (IsPastNumeral g.L.Language.IsPast)) (IsFirst (IsEndless reads made)) (IsFirst (IsTooHigh reads made)) (AreEach reads) seen_all c.args.groups.now c.loop-i.i (rw c.len-i-end.ensures at c.loop-i-test.false) _ _ _ c.loop-i.invariant
+returns-clause-ok g c = all_found _ _ _ _ _ all_as_written c.args.groups.now c.loop-i.i (rw c.len-i-end.ensures at c.loop-i-test.false) _ _ _ c.loop-i.invariant

@@ -3,7 +3,8 @@ use Rattle.vx_translate.specs.declared.refusal.Refusal.{Refusal}
 use Rattle.vx_translate.specs.declared.refusal.Refusal.TheVariants.{BadVers, NoMemory}
 use Rattle.vx_translate.specs.declared.refusal.VersPart.TheVariants.{Head}
 use Rattle.vx_translate.specs.Steps.Rows.{IsRowCanon, IsRowCanonRefused}
-use Rattle.vx_translate.proofs.OneScheme.{by_scheme, by_head, one_refusal, fact_or_refusal}
+use Rattle.vx_scheme.proofs.NameLaws.{by_scheme}
+use Rattle.vx_translate.proofs.OneScheme.{by_head, one_refusal, fact_or_refusal}
 use Rattle.vx_translate.proofs.laws.one_canon.Goals as goal
 
 pub returns-clause-text : goal.returns-clause-text

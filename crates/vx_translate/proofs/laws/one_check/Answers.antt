@@ -4,7 +4,8 @@ use Rattle.vx_translate.specs.declared.check_refusal.CheckRefusal.TheVariants.{V
 use Rattle.vx_translate.specs.declared.refusal.Refusal.TheVariants.{BadVers}
 use Rattle.vx_translate.specs.declared.refusal.VersPart.TheVariants.{Head}
 use Rattle.vx_translate.specs.Steps.Rows.{IsRowCheck, IsRowCheckRefused}
-use Rattle.vx_translate.proofs.OneScheme.{by_scheme, by_head, one_refusal, fact_or_refusal}
+use Rattle.vx_scheme.proofs.NameLaws.{by_scheme}
+use Rattle.vx_translate.proofs.OneScheme.{by_head, one_refusal, fact_or_refusal}
 use Rattle.vx_translate.proofs.laws.one_check.Goals as goal
 
 pub returns-clause-decision : goal.returns-clause-decision

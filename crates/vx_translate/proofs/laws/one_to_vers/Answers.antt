@@ -3,7 +3,7 @@ use Rattle.vx_scheme.specs.declared.domain.Domain.{Domain}
 use Rattle.vx_translate.specs.declared.refusal.Refusal.{Refusal}
 use Rattle.vx_translate.specs.declared.refusal.Refusal.TheVariants.{NoMemory}
 use Rattle.vx_translate.specs.Names.{IsTranslated, IsRefused}
-use Rattle.vx_translate.proofs.OneScheme.{by_scheme}
+use Rattle.vx_scheme.proofs.NameLaws.{by_scheme}
 use Rattle.vx_translate.proofs.laws.one_to_vers.Goals as goal
 
 pub returns-clause-text : goal.returns-clause-text

@@ -2,7 +2,7 @@ use Rattle.std.proofs.Common.{◌≡◌, ◌+◌, ◌≤◌, ap, subst, ℕ, Lis
 use Rattle.std.specs.Option.{option_copied}
 use Rattle.std.proofs.lemmas.Result.{err_from_is_err_and}
 use Rattle.vx_text.proofs.Joins.{parts_behind}
-use Rattle.vx_vers.specs.Grammar.{kept_parts}
+use Rattle.vx_text.specs.Pieces.{kept_parts}
 use Rattle.vx_vers.specs.Steps.Reading.{IsReadUpTo, written_in}
 use Rattle.vx_vers.proofs.PartLaws.{IsPlainLeft, left, plain_behind, plain_part}
 use Rattle.vx_vers.proofs.ReadLaws.{read_more, read_stops, room_left}

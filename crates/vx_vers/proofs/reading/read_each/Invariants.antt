@@ -1,7 +1,7 @@
 use Rattle.std.proofs.Common.{◌≤◌, ◌+◌, length}
 use Rattle.std.specs.Option.{option_copied}
 use Rattle.vx_text.proofs.Joins.{parts_behind}
-use Rattle.vx_vers.specs.Grammar.{kept_parts}
+use Rattle.vx_text.specs.Pieces.{kept_parts}
 use Rattle.vx_vers.specs.Steps.Reading.{IsReadUpTo, written_in}
 use Rattle.vx_vers.proofs.PartLaws.{IsPlainLeft, left}
 use Rattle.vx_vers.proofs.reading.read_each.Given as goal

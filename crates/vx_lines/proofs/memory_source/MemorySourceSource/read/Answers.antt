@@ -10,7 +10,7 @@ returns-clause-bytes c =
     let n = c.copy_front-count.result in
     let m = c.min-most.result - at in
     let left = sym (ap (λ source. source.left) c.self.view_is) in
-    let is = rw c.deref-2.ensures.value at c.copy_front-count.ensures in
+    let is = rw c.deref.ensures.value at c.copy_front-count.ensures in
     let fits : n ≤ length (take m (drop at bytes)) = omega (arith, is.count) in
     let whole = given_of_front (drop at bytes) (take n c.copy_front-count.new.buf) m n fits is.given in (
       left ∙ whole ∙ ap (λ l. take n c.copy_front-count.new.buf ++ l) (drop-drop n at bytes),
